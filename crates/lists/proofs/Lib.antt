@@ -1,0 +1,3 @@
+pub mod Cut
+pub mod Eat
+pub mod Put

@@ -1,0 +1,1 @@
+// Definitions and laws on lists, for every crate above: no code.

@@ -1,0 +1,47 @@
+-- The three ways of `checkText`, as `search` takes them from what a need knows, and what a text that passes is.
+-- Assumes nothing.
+use mathlib.Core.Path.{_≡_, _∙_}
+use mathlib.Core.List.{List}
+use Prim.Native.Nat.{ℕ, _≤_, _<_}
+use native.Mathlib.Omega.{arith}
+use lib.Dec.{ltb}
+use lib.ListN.{length}
+use borrow.Author.Tests.{lt-ltb, le-ltb, ltb-false}
+use Rattle.lists.proofs.Eat.{by-test}
+use Rattle.unicode.specs.Utf8.{validUpTo, WellFormed}
+use Rattle.unicode.proofs.Valid.{valid-within}
+use Rattle.text.specs.Answer.{Answered, done, tooLong, notUtf8, longest, checkText}
+
+module _ (s : List ℕ) {number also : ℕ} where
+  pub text-long : longest < length s → number ≡ tooLong → also ≡ 0 → Answered (checkText s) number also
+  unfolding checkText
+  text-long h p q = rw (lt-ltb longest (length s) h) (record { number-is = p; also-is = q })
+
+  pub text-bad : {good : ℕ} → good ≡ validUpTo s → length s ≤ longest → good < length s → number ≡ notUtf8 → also ≡ good → Answered (checkText s) number also
+  unfolding checkText
+  text-bad e h k p q =
+      rw (le-ltb longest (length s) h, lt-ltb (validUpTo s) (length s) (rw e at k)) (record { number-is = p; also-is = q ∙ e })
+
+  pub text-fine : {good : ℕ} → good ≡ validUpTo s → length s ≤ longest → length s ≤ good → number ≡ done → also ≡ 0 → Answered (checkText s) number also
+  unfolding checkText
+  text-fine e h k p q =
+      rw (le-ltb longest (length s) h, le-ltb (validUpTo s) (length s) (rw e at k)) (record { number-is = p; also-is = q })
+
+pub ruleset ways = (text-long, text-bad, text-fine)
+
+-- a text that is not refused is short enough and well-formed
+pub record Accepted (s : List ℕ) : Type 0 where
+  pub short : length s ≤ longest
+  pub good : WellFormed s
+
+pub accepted : (s : List ℕ) → checkText s .0 ≡ done → Accepted s
+unfolding checkText
+accepted s h =
+    by-test (ltb longest (length s)) (λ e. absurd (omega (arith, rw e at h)))
+    (λ e. by-test (ltb (validUpTo s) (length s)) (λ f. absurd (omega (arith, rw (e, f) at h)))
+    (λ f. record { short = ltb-false longest (length s) e; good = omega (arith, ltb-false (validUpTo s) (length s) f, valid-within s) }))
+
+-- and one that is short enough and well-formed is not refused
+pub not-refused : (s : List ℕ) → Accepted s → checkText s ≡ (done, 0)
+unfolding checkText
+not-refused s a = rw (le-ltb longest (length s) (a .short), le-ltb (validUpTo s) (length s) (omega (arith, a .good)))

@@ -1,0 +1,53 @@
+-- What comes back from every entry: a number, and what is also returned with it; and the checks that each entry that takes text begins with.
+-- Assumes nothing.
+use mathlib.Core.Path.{_≡_, sym, _∙_}
+use mathlib.Core.Bool.{cond}
+use mathlib.Core.List.{List}
+use Prim.Native.Nat.{ℕ}
+use lib.Dec.{ltb, eqb}
+use lib.ListN.{length}
+use Rattle.unicode.specs.Utf8.{validUpTo}
+
+-- ---- the numbers
+abbrev pub done : ℕ
+done = 0
+
+abbrev pub unknownSelector : ℕ
+unknownSelector = 1
+
+abbrev pub tooLong : ℕ
+tooLong = 2
+
+abbrev pub notUtf8 : ℕ
+notUtf8 = 3
+
+abbrev pub roomTooSmall : ℕ
+roomTooSmall = 4
+
+-- the most bytes that a text may have
+abbrev pub longest : ℕ
+longest = 4294967295
+
+-- an answer is the number and what is also returned
+pub record Answered (is : ℕ × ℕ) (number also : ℕ) : Type 0 where
+  pub number-is : number ≡ is .0
+  pub also-is : also ≡ is .1
+
+-- one outcome: two answers of one call are equal
+pub answered-unique : {is : ℕ × ℕ} {n a m b : ℕ} → Answered is n a → Answered is m b → (n ≡ m) × (a ≡ b)
+answered-unique p q = (p .number-is ∙ sym (q .number-is), p .also-is ∙ sym (q .also-is))
+
+-- ---- checks go in order: the first that refuses is given, and what follows only where none does
+infixr 20 _andThen_
+abbrev pub _andThen_ : ℕ × ℕ → ℕ × ℕ → ℕ × ℕ
+x andThen y = cond (eqb (x .0) done) y x
+
+abbrev pub checkLength : List ℕ → ℕ × ℕ
+checkLength s = cond (ltb longest (length s)) (tooLong, 0) (done, 0)
+
+-- not UTF-8: with the length of the longest well-formed beginning
+abbrev pub checkUtf8 : List ℕ → ℕ × ℕ
+checkUtf8 s = cond (ltb (validUpTo s) (length s)) (notUtf8, validUpTo s) (done, 0)
+
+unfoldable pub checkText : List ℕ → ℕ × ℕ
+checkText s = checkLength s andThen checkUtf8 s

@@ -1,0 +1,46 @@
+// What every entry answers, and the checks that every entry that takes text begins with.
+ghost use Rattle.text.specs.Answer.{Answered, checkText};
+use unicode::utf8::valid_up_to;
+
+// The number says how a call went, and `also` what comes with it.
+#[repr(C)]
+pub struct Answer {
+    pub number: u32,
+    pub also: u64,
+}
+
+pub const DONE: u32 = 0;
+
+pub const UNKNOWN_SELECTOR: u32 = 1;
+
+pub const TOO_LONG: u32 = 2;
+
+pub const NOT_UTF8: u32 = 3;
+
+pub const ROOM_TOO_SMALL: u32 = 4;
+
+// The most bytes that a text may have.
+pub const LONGEST: usize = 4294967295;
+
+// Refusal 2 for a text that is too long, then 3 for one that is not UTF-8, else 0; it writes nothing.
+pub fn check_text(text: &[u8]) -> Answer
+    ensures { λ r. ⌜ Answered (checkText (now (text .entry))) (r .number) (r .also) ⌝ }
+{
+    if LONGEST < text.len() {
+        return Answer {
+            number: TOO_LONG,
+            also: 0,
+        };
+    }
+    let good = valid_up_to(text);
+    if good < text.len() {
+        return Answer {
+            number: NOT_UTF8,
+            also: good as u64,
+        };
+    }
+    Answer {
+        number: DONE,
+        also: 0,
+    }
+}

@@ -1,0 +1,9 @@
+pub mod Rows
+pub mod First
+pub mod Encode
+pub mod Text
+pub mod Valid
+pub mod Reading
+pub mod Search
+pub mod Rising
+pub mod Member

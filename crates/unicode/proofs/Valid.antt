@@ -1,0 +1,201 @@
+-- The longest well-formed beginning: how it goes on from a place, that it is well-formed and nothing longer is, and that the
+-- well-formed texts are exactly the encodings of lists of scalar values.
+-- Assumes nothing.
+use Prim.Native.Nat.{ℕ, zero, suc, _+_, _≤_, _<_}
+use native.Mathlib.Omega.{arith}
+use native.Mathlib.Nat.{add-zero}
+use mathlib.Core.Path.{_≡_, refl, ap, sym, _∙_}
+use mathlib.Core.Logic.{_↔_}
+use mathlib.Core.Bool.{Bool, true, false, _&&_, cond, false≢true}
+use mathlib.Core.List.{List, [], _∷_, _++_, append-assoc, append-nil}
+use lib.ListN.{length, drop, take, getD, length-drop, length-append, take-append-drop}
+use lib.Seq.{drop-cons, drop-at, take-length, take-add, length-take-le, take-nil}
+use lib.Dec.{ltb}
+use borrow.Author.Tests.{lt-ltb, le-ltb, ltb-true}
+use Rattle.lists.proofs.Cut.{by-length}
+use Rattle.lists.proofs.Eat.{by-test}
+use Rattle.unicode.specs.Utf8.{first, chars, width, isChar, isScalar, allScalar, encode, encodeAll, goodBytes, validUpTo, WellFormed}
+use Rattle.unicode.specs.Text.{bytes, left, Decoded, Point, Passed}
+use Rattle.unicode.proofs.First.{fine}
+use Rattle.unicode.proofs.Encode.{scalar, encode-long, back, forth}
+use Rattle.unicode.proofs.Text.{chars-nil, chars-first, left-end, point-at, decoded-point, bytes-chars}
+use Rattle.unicode.proofs.Rows.{first-1}
+
+-- ---- from a place on
+valid-left : (s : List ℕ) (at : ℕ) → validUpTo (drop at s) ≡ goodBytes (left s at)
+unfolding validUpTo
+valid-left s at = refl
+
+pub valid-more : {s : List ℕ} {at code wide : ℕ} → Point s at code wide → code < 1114112 → validUpTo (drop at s) ≡ wide + validUpTo (drop (at + wide) s)
+unfolding goodBytes
+valid-more {s} {at} {code} {wide} c h =
+    valid-left s at ∙ rw (c .view, lt-ltb code 1114112 h, ← c .size, valid-left s (at + wide))
+
+pub valid-stop : {s : List ℕ} {at code wide : ℕ} → Point s at code wide → 1114112 ≤ code → validUpTo (drop at s) ≡ 0
+unfolding goodBytes
+valid-stop {s} {at} {code} {wide} c h = valid-left s at ∙ rw (c .view, le-ltb code 1114112 h)
+
+pub valid-end : (s : List ℕ) (at : ℕ) → length s ≤ at → validUpTo (drop at s) ≡ 0
+unfolding goodBytes
+valid-end s at h = valid-left s at ∙ rw (left-end s at h)
+
+-- ASCII, byte by byte
+pub ascii-point : (s : List ℕ) (at : ℕ) → at < length s → getD s at 0 < 0x80 → Point s at (getD s at 0) 1
+ascii-point s at h k =
+    let e : first (drop at s) ≡ (getD s at 0, 1) = rw (drop-cons s at 0 h) (first-1 (getD s at 0) (drop (suc at) s) (omega arith)) in
+    rw e at (point-at s at h)
+
+pub valid-ascii : (n : ℕ) (s : List ℕ) (at : ℕ) → at + n ≤ length s → ((k : ℕ) → k < n → getD s (at + k) 0 < 0x80) → validUpTo (drop at s) ≡ n + validUpTo (drop (at + n) s)
+valid-ascii zero s at l h = rw (add-zero at) (omega arith)
+valid-ascii (suc n) s at l h =
+    let b : getD s at 0 < 0x80 = rw (add-zero at) at (h 0 (omega arith)) in
+    let e : at + 1 + n ≡ at + suc n = omega arith in
+    let ih : validUpTo (drop (at + 1) s) ≡ n + validUpTo (drop (at + suc n) s) =
+    rw e at (valid-ascii n s (at + 1) (omega arith) (λ k i. let f : at + suc k ≡ at + 1 + k = omega arith in rw f at (h (suc k) (omega arith)))) in
+    valid-more (ascii-point s at (omega arith) b) (omega arith) ∙ omega (arith, ih)
+
+-- ---- the encodings of scalar values are well-formed
+valid-nil : validUpTo [] ≡ 0
+unfolding validUpTo goodBytes
+valid-nil = rw chars-nil
+
+good-within : (l : List ℕ) → goodBytes l ≤ bytes l
+unfolding goodBytes bytes
+good-within [] = omega arith
+good-within (c ∷ l) = by-test (isChar c) (λ h. rw h (omega (arith, good-within l))) (λ h. rw h (omega arith))
+
+width-some : (c : ℕ) → 1 ≤ width c
+unfolding width
+width-some c =
+    by-test (ltb c 0x80) (λ h. rw h (omega arith))
+    (λ h. by-test (ltb c 0x800) (λ i. rw (h, i) (omega arith))
+    (λ i. by-test (ltb c 0x10000) (λ j. rw (h, i, j) (omega arith))
+    (λ j. by-test (isChar c) (λ k. rw (h, i, j, k) (omega arith)) (λ k. rw (h, i, j, k) (omega arith)))))
+
+all-first : (p q : Bool) → p && q ≡ true → (p ≡ true) × (q ≡ true)
+all-first true q e = (refl, e)
+all-first false q e = absurd (false≢true e)
+
+pub chars-encode : (c : ℕ) (s : List ℕ) → isScalar c ≡ true → chars (encode c ++ s) ≡ c ∷ chars s
+chars-encode c s h =
+    let l : c < 1114112 = omega (arith, scalar c h .top) in
+    let w : length (encode c) ≡ width c = encode-long c l in
+    let k : 0 < length (encode c ++ s) = omega (arith, length-append (encode c) s, width-some c) in
+    chars-first (encode c ++ s) k ∙ rw (back c s h, drop-at (encode c) s (width c) w)
+
+-- a list of scalar values, written and read, is that list
+pub read-back : (cs s : List ℕ) → allScalar cs ≡ true → chars (encodeAll cs ++ s) ≡ cs ++ chars s
+unfolding allScalar encodeAll
+read-back [] s h = refl
+read-back (c ∷ cs) s h =
+    let p = all-first (isScalar c) (allScalar cs) h in
+    rw append-assoc (chars-encode c (encodeAll cs ++ s) (p .0) ∙ rw (read-back cs s (p .1)))
+
+-- and every byte of it counts
+pub valid-encoded : (cs s : List ℕ) → allScalar cs ≡ true → validUpTo (encodeAll cs ++ s) ≡ length (encodeAll cs) + validUpTo s
+unfolding allScalar encodeAll validUpTo goodBytes
+valid-encoded [] s h = omega arith
+valid-encoded (c ∷ cs) s h =
+    let p = all-first (isScalar c) (allScalar cs) h in
+    let l : c < 1114112 = omega (arith, scalar c (p .0) .top) in
+    rw (append-assoc, chars-encode c (encodeAll cs ++ s) (p .0), lt-ltb c 1114112 l, length-append (encode c) (encodeAll cs))
+    (omega (arith, encode-long c l, valid-encoded cs s (p .1)))
+
+pub encoded-well-formed : (cs : List ℕ) → allScalar cs ≡ true → WellFormed (encodeAll cs)
+encoded-well-formed cs h =
+    let e : encodeAll cs ++ [] ≡ encodeAll cs = append-nil (encodeAll cs) in
+    rw e at (valid-encoded cs [] h) ∙ omega (arith, valid-nil)
+
+-- ---- the characters before the first that is none
+unfoldable pub good : List ℕ → List ℕ
+good [] = []
+good (c ∷ t) = cond (isChar c) (c ∷ good t) []
+
+-- they are scalar values, and their encodings are the longest well-formed beginning
+pub record Beginning (s : List ℕ) : Type 0 where
+  pub scalars : allScalar (good (chars s)) ≡ true
+  pub written : encodeAll (good (chars s)) ≡ take (validUpTo s) s
+
+begin-none : Beginning []
+unfolding good allScalar encodeAll
+begin-none = record { scalars = rw chars-nil; written = rw chars-nil (sym (take-nil (validUpTo []))) }
+
+begin-one : (a : ℕ) (s : List ℕ) → ((l : List ℕ) → length l ≤ length s → Beginning l) → Beginning (a ∷ s)
+unfolding good allScalar encodeAll validUpTo goodBytes
+begin-one a s ih =
+    let x = first (a ∷ s) .0 in
+    let w = first (a ∷ s) .1 in
+    let f = fine a s in
+    let t = drop w (a ∷ s) in
+    let b = ih t (omega (arith, f .some, length-drop w (a ∷ s))) in
+    let c : chars (a ∷ s) ≡ x ∷ chars t = chars-first (a ∷ s) (omega arith) in
+    by-test (isChar x)
+    (λ h.
+    let l : x < 1114112 = ltb-true x 1114112 h in
+    record {
+      scalars = rw (c, h, f .scalar l) (b .scalars);
+      written = rw (c, h, b .written, forth a s l, ← f .size) (sym (take-add w (validUpTo t) (a ∷ s)));
+    })
+    (λ h. record { scalars = rw (c, h); written = rw (c, h) })
+
+pub beginning : (s : List ℕ) → Beginning s
+beginning = by-length Beginning begin-none begin-one
+
+pub valid-within : (s : List ℕ) → validUpTo s ≤ length s
+unfolding validUpTo
+valid-within s = omega (arith, good-within (chars s), bytes-chars s)
+
+-- ---- the longest well-formed beginning is well-formed, and nothing longer is
+pub longest-well-formed : (s : List ℕ) → WellFormed (take (validUpTo s) s)
+longest-well-formed s = let b = beginning s in rw (b .written) at (encoded-well-formed (good (chars s)) (b .scalars))
+
+-- ---- the well-formed texts are exactly the encodings of lists of scalar values
+pub record Encoded (s : List ℕ) : Type 0 where
+  pub of : List ℕ
+  pub scalars : allScalar of ≡ true
+  pub same : s ≡ encodeAll of
+
+pub well-formed-encoded : (s : List ℕ) → WellFormed s → Encoded s
+well-formed-encoded s h =
+    let b = beginning s in
+    record { of = good (chars s); scalars = b .scalars; same = sym (b .written ∙ rw h (take-length s)) }
+
+pub exactly-encoded : (s : List ℕ) → WellFormed s ↔ Encoded s
+exactly-encoded s = (well-formed-encoded s, λ e. rw (e .same) (encoded-well-formed (e .of) (e .scalars)))
+
+pub nothing-longer : (s : List ℕ) (n : ℕ) → n ≤ length s → WellFormed (take n s) → n ≤ validUpTo s
+nothing-longer s n l h =
+    let e = well-formed-encoded (take n s) h in
+    let v = valid-encoded (e .of) (drop n s) (e .scalars) in
+    let j : encodeAll (e .of) ++ drop n s ≡ s = rw (← e .same) (take-append-drop n s) in
+    let m : length (encodeAll (e .of)) ≡ n = ap length (sym (e .same)) ∙ length-take-le n s l in
+    omega (arith, rw j at v, m)
+
+-- ---- the walks over what is well-formed
+pub passed-none : {s : List ℕ} {at : ℕ} → at ≤ length s → Passed s at at
+passed-none h = record { after = omega arith; within = h; same = refl }
+
+pub passed-then : {s : List ℕ} {from at end : ℕ} → Passed s from at → Passed s at end → Passed s from end
+passed-then p q = record { after = omega arith; within = q .within; same = p .same ∙ q .same }
+
+pub passed-char : {s : List ℕ} {at code wide at′ : ℕ} → Point s at code wide → code < 1114112 → at′ ≡ at + wide → Passed s at at′
+passed-char c h e = rw e (record { after = omega arith; within = c .within; same = omega (arith, valid-more c h) })
+
+pub passed-block : {s : List ℕ} {at at′ n : ℕ} → at + n ≤ length s → ((k : ℕ) → k < n → getD s (at + k) 0 < 0x80) → at′ ≡ at + n → Passed s at at′
+passed-block {s} {at} {at′} {n} l h e = rw e (record { after = omega arith; within = l; same = omega (arith, valid-ascii n s at l h) })
+
+-- as `search` takes them from what a need knows
+pub walk-on : {s : List ℕ} {from at at′ code wide : ℕ} → Passed s from at → Decoded s at code wide → at < length s → code < 1114112 → at′ ≡ at + wide → Passed s from at′
+walk-on p d l h e = passed-then p (passed-char (decoded-point d l) h e)
+
+pub walk-stop : {s : List ℕ} {at code wide : ℕ} → Decoded s at code wide → at < length s → 1114112 ≤ code → validUpTo (drop at s) ≡ 0
+walk-stop d l h = valid-stop (decoded-point d l) h
+
+pub walk-block : {s : List ℕ} {from at at′ m : ℕ} → Passed s from at → ((k : ℕ) → k < 32 → getD s (at + k) 0 ≤ m) → at + 32 ≤ length s → m ≤ 0x7F → at′ ≡ at + 32 → Passed s from at′
+walk-block p h l g e = passed-then p (passed-block l (λ k i. omega (arith, h k i)) e)
+
+pub walked : {s : List ℕ} {at : ℕ} → Passed s 0 at → validUpTo (drop at s) ≡ 0 → at ≡ validUpTo s
+walked p h = omega (arith, p .same)
+
+pub walked-all : {s : List ℕ} {at : ℕ} → Passed s 0 at → length s ≤ at → at ≡ validUpTo s
+walked-all {s} {at} p h = walked p (valid-end s at h)

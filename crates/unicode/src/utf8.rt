@@ -1,0 +1,205 @@
+// UTF-8 after the Unicode Standard, Table 3-7, "Well-Formed UTF-8 Byte Sequences".
+ghost use mathlib.Core.Path.{_≡_};
+ghost use Prim.Native.Nat.{ℕ, _+_, _≤_, _<_, min};
+ghost use lib.ListN.{length, getD, drop};
+ghost use Rattle.unicode.specs.Utf8.{noChar, validUpTo};
+ghost use Rattle.unicode.specs.Wide.{Reads, low, high, two, three, four};
+ghost use Rattle.unicode.specs.Text.{Decoded, Passed};
+use crate::ranges::in_range;
+
+// A character, and how many bytes it takes. A byte that begins no well-formed sequence is read as no character: 1,114,112
+// more than the byte, one byte wide.
+pub struct Char {
+    pub code: u32,
+    pub wide: usize,
+}
+
+fn no_char(b: u8) -> Char
+    ensures { λ r. ⌜ Reads (noChar b, 1) (r .code) (r .wide) ⌝ }
+{
+    Char {
+        code: 1114112 + b as u32,
+        wide: 1,
+    }
+}
+
+// The byte at i, or 0 past the end, which the table allows nowhere behind a first byte.
+fn byte(text: &[u8], i: usize) -> u8
+    ensures { λ r. ⌜ r ≡ getD (now (text .entry)) i 0 ⌝ }
+{
+    if i < text.len() { text[i] } else { 0 }
+}
+
+// The bounds of the second byte behind the first byte a.
+fn low_of(a: u8) -> u8
+    ensures { λ r. ⌜ r ≡ low a ⌝ }
+{
+    if a == 0xE0 {
+        return 0xA0;
+    }
+    if a == 0xF0 { 0x90 } else { 0x80 }
+}
+
+fn high_of(a: u8) -> u8
+    ensures { λ r. ⌜ r ≡ high a ⌝ }
+{
+    if a == 0xED {
+        return 0x9F;
+    }
+    if a == 0xF4 { 0x8F } else { 0xBF }
+}
+
+fn two_bytes(a: u8, b: u8) -> Char
+    ensures { λ r. ⌜ Reads (two a b) (r .code) (r .wide) ⌝ }
+{
+    if !in_range(0x80, 0xBF, b) {
+        return no_char(a);
+    }
+    let v = (a % 32) as u32 * 64 + (b % 64) as u32;
+    Char { code: v, wide: 2 }
+}
+
+fn three_bytes(a: u8, b: u8, c: u8) -> Char
+    ensures { λ r. ⌜ Reads (three a b c) (r .code) (r .wide) ⌝ }
+{
+    if !in_range(low_of(a), high_of(a), b) {
+        return no_char(a);
+    }
+    if !in_range(0x80, 0xBF, c) {
+        return no_char(a);
+    }
+    let v = (a % 16) as u32 * 64 + (b % 64) as u32;
+    Char {
+        code: v * 64 + (c % 64) as u32,
+        wide: 3,
+    }
+}
+
+fn four_bytes(a: u8, b: u8, c: u8, d: u8) -> Char
+    ensures { λ r. ⌜ Reads (four a b c d) (r .code) (r .wide) ⌝ }
+{
+    if !in_range(low_of(a), high_of(a), b) {
+        return no_char(a);
+    }
+    if !in_range(0x80, 0xBF, c) {
+        return no_char(a);
+    }
+    if !in_range(0x80, 0xBF, d) {
+        return no_char(a);
+    }
+    let v = (a % 8) as u32 * 64 + (b % 64) as u32;
+    Char {
+        code: (v * 64 + (c % 64) as u32) * 64 + (d % 64) as u32,
+        wide: 4,
+    }
+}
+
+// A character that is not ASCII.
+fn decode_wide(text: &[u8], at: usize) -> Char
+    requires { ⌜ (at < length (now text)) × (0x80 ≤ getD (now text) at 0) ⌝ }
+    ensures { λ r. ⌜ Decoded (now (text .entry)) at (r .code) (r .wide) ⌝ }
+{
+    let a = text[at];
+    match a {
+        0xC2..=0xDF => two_bytes(a, byte(text, at + 1)),
+        0xE0..=0xEF => three_bytes(a, byte(text, at + 1), byte(text, at + 2)),
+        0xF0..=0xF4 => four_bytes(
+            a,
+            byte(text, at + 1),
+            byte(text, at + 2),
+            byte(text, at + 3),
+        ),
+        _ => no_char(a),
+    }
+}
+
+// The character at a place; at or past the end, 0 and 0.
+pub fn decode(text: &[u8], at: usize) -> Char
+    ensures { λ r. ⌜ Decoded (now (text .entry)) at (r .code) (r .wide) ⌝ }
+{
+    if text.len() <= at {
+        return Char { code: 0, wide: 0 };
+    }
+    let a = text[at];
+    if a < 0x80 {
+        return Char {
+            code: a as u32,
+            wide: 1,
+        };
+    }
+    decode_wide(text, at)
+}
+
+// The largest of the 32 bytes from a place on: a loop that compiles to vector instructions.
+fn top(text: &[u8], at: usize) -> u8
+    requires { ⌜ at + 32 ≤ length (now text) ⌝ }
+    ensures { λ r. ⌜ ((k : ℕ) → k < 32 → getD (now (text .entry)) (at + k) 0 ≤ r) ⌝ }
+{
+    let mut m: u8 = 0;
+    let mut i: usize = 0;
+    while i < 32 {
+        let b = text[at + i];
+        if m < b {
+            m = b;
+        }
+        i = i + 1;
+    }
+    m
+}
+
+// Past each block of 32 bytes that is all ASCII, from a place on.
+fn skip_blocks(text: &[u8], from: usize) -> usize
+    requires { ⌜ from ≤ length (now text) ⌝ }
+    ensures { λ r. ⌜ Passed (now (text .entry)) from r ⌝ }
+{
+    let mut at = from;
+    while 32 <= text.len() - at {
+        if 0x7F < top(text, at) {
+            return at;
+        }
+        at = at + 32;
+    }
+    at
+}
+
+// Character by character to `stop` or past it, or to the first that is none.
+fn skip_chars(text: &[u8], from: usize, stop: usize) -> usize
+    requires { ⌜ (from ≤ length (now text)) × (stop ≤ length (now text)) ⌝ }
+    ensures { λ r. ⌜ (Passed (now (text .entry)) from r) × (r < stop → validUpTo (drop r (now (text .entry))) ≡ 0) ⌝ }
+{
+    let mut at = from;
+    while at < stop {
+        let c = decode(text, at);
+        if 1114112 <= c.code {
+            return at;
+        }
+        at = at + c.wide;
+    }
+    at
+}
+
+// 64 bytes further, or the end.
+fn next_stop(from: usize, end: usize) -> usize
+    requires { ⌜ from ≤ end ⌝ }
+    ensures { λ r. ⌜ (min end (from + 1) ≤ r) × (r ≤ end) ⌝ }
+{
+    if 64 < end - from { from + 64 } else { end }
+}
+
+// The length of the longest well-formed beginning: by blocks where the text is ASCII, and where it is not, by characters
+// until blocks are tried again.
+pub fn valid_up_to(text: &[u8]) -> usize
+    ensures { λ r. ⌜ r ≡ validUpTo (now (text .entry)) ⌝ }
+{
+    let mut at = 0;
+    while at < text.len() {
+        let from = skip_blocks(text, at);
+        let stop = next_stop(from, text.len());
+        let end = skip_chars(text, from, stop);
+        if end < stop {
+            return end;
+        }
+        at = end;
+    }
+    at
+}
