@@ -191,7 +191,7 @@ walk-on p d l h e = passed-then p (passed-char (decoded-point d l) h e)
 pub walk-stop : {s : List ℕ} {at code wide : ℕ} → Decoded s at code wide → at < length s → 1114112 ≤ code → validUpTo (drop at s) ≡ 0
 walk-stop d l h = valid-stop (decoded-point d l) h
 
-pub walk-block : {s : List ℕ} {from at at′ m : ℕ} → Passed s from at → ((k : ℕ) → k < 32 → getD s (at + k) 0 ≤ m) → at + 32 ≤ length s → m ≤ 0x7F → at′ ≡ at + 32 → Passed s from at′
+pub walk-block : {s : List ℕ} {from at at′ m n : ℕ} → Passed s from at → ((k : ℕ) → k < n → getD s (at + k) 0 ≤ m) → at + n ≤ length s → m ≤ 0x7F → at′ ≡ at + n → Passed s from at′
 walk-block p h l g e = passed-then p (passed-block l (λ k i. omega (arith, h k i)) e)
 
 pub walked : {s : List ℕ} {at : ℕ} → Passed s 0 at → validUpTo (drop at s) ≡ 0 → at ≡ validUpTo s

@@ -1,8 +1,11 @@
 // The tests of a code point: XID_Start, XID_Continue, Emoji and White_Space of the Unicode Character Database.
-// A constant that is lent is stored anew each time, so each test has a form that takes the property's table as a slice:
-// who asks of many characters lends it once. ASCII is decided before any table.
+// A constant that is lent is stored anew where its function starts, so each test has a form that takes the property's table
+// as a slice: who asks of many characters lends it once. ASCII is decided before any table, and so the function that lends
+// the constant is one of its own.
 ghost use mathlib.Core.Path.{_≡_};
-ghost use Rattle.unicode.specs.Ranges.{inTable};
+ghost use Rattle.unicode.specs.Ranges.{inTable, flat};
+ghost use Rattle.unicode.specs.Search.{searched};
+ghost use Rattle.unicode.specs.Ucd.{xidStart, xidContinue, emoji, whiteSpace};
 ghost use Rattle.unicode.specs.Properties.{isXidStart, isXidContinue, isEmoji, isWhiteSpace, asciiStart, asciiContinue, asciiEmoji, asciiSpace, testedIn};
 use crate::ranges::in_range;
 use crate::ranges::search;
@@ -93,13 +96,25 @@ pub fn is_white_space_in(table: &[u32], c: u32) -> bool
     search(table, c)
 }
 
+fn wide_start(c: u32) -> bool
+    ensures { λ r. ⌜ r ≡ searched (flat xidStart) c ⌝ }
+{
+    search(&tables::XID_START, c)
+}
+
 pub fn is_xid_start(c: u32) -> bool
     ensures { λ r. ⌜ r ≡ isXidStart c ⌝ }
 {
     if c < 0x80 {
         return ascii_start(c as u8);
     }
-    search(&tables::XID_START, c)
+    wide_start(c)
+}
+
+fn wide_continue(c: u32) -> bool
+    ensures { λ r. ⌜ r ≡ searched (flat xidContinue) c ⌝ }
+{
+    search(&tables::XID_CONTINUE, c)
 }
 
 pub fn is_xid_continue(c: u32) -> bool
@@ -108,7 +123,13 @@ pub fn is_xid_continue(c: u32) -> bool
     if c < 0x80 {
         return ascii_continue(c as u8);
     }
-    search(&tables::XID_CONTINUE, c)
+    wide_continue(c)
+}
+
+fn wide_emoji(c: u32) -> bool
+    ensures { λ r. ⌜ r ≡ searched (flat emoji) c ⌝ }
+{
+    search(&tables::EMOJI, c)
 }
 
 pub fn is_emoji(c: u32) -> bool
@@ -117,7 +138,13 @@ pub fn is_emoji(c: u32) -> bool
     if c < 0x80 {
         return ascii_emoji(c as u8);
     }
-    search(&tables::EMOJI, c)
+    wide_emoji(c)
+}
+
+fn wide_space(c: u32) -> bool
+    ensures { λ r. ⌜ r ≡ searched (flat whiteSpace) c ⌝ }
+{
+    search(&tables::WHITE_SPACE, c)
 }
 
 pub fn is_white_space(c: u32) -> bool
@@ -126,5 +153,5 @@ pub fn is_white_space(c: u32) -> bool
     if c < 0x80 {
         return ascii_space(c as u8);
     }
-    search(&tables::WHITE_SPACE, c)
+    wide_space(c)
 }

@@ -178,12 +178,12 @@ fn skip_chars(text: &[u8], from: usize, stop: usize) -> usize
     at
 }
 
-// 64 bytes further, or the end.
+// A block of bytes further, or the end.
 fn next_stop(from: usize, end: usize) -> usize
     requires { ⌜ from ≤ end ⌝ }
     ensures { λ r. ⌜ (min end (from + 1) ≤ r) × (r ≤ end) ⌝ }
 {
-    if 64 < end - from { from + 64 } else { end }
+    if 32 < end - from { from + 32 } else { end }
 }
 
 // The length of the longest well-formed beginning: by blocks where the text is ASCII, and where it is not, by characters
