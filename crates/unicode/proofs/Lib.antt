@@ -7,3 +7,4 @@ pub mod Reading
 pub mod Search
 pub mod Rising
 pub mod Member
+pub mod Samples

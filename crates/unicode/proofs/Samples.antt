@@ -1,0 +1,43 @@
+-- The Standard's own examples, computed: those of D92 and of the text under Table 3-7.
+-- Assumes nothing.
+use mathlib.Core.Path.{_≡_, refl}
+use mathlib.Core.Bool.{Bool, true, false}
+use mathlib.Core.List.{List, [], _∷_}
+use Prim.Native.Nat.{ℕ}
+use Rattle.lists.specs.Cut.{pieces, cut}
+use Rattle.unicode.specs.Utf8.{table, behind, begins, joined, readBy, first, next, chars, isScalar, width, encode, encodeAll, goodBytes, validUpTo}
+
+-- <004D, 0430, 4E8C, 10302> is <4D D0 B0 E4 BA 8C F0 90 8C 82>
+four-bytes : List ℕ
+four-bytes = 0x4D ∷ 0xD0 ∷ 0xB0 ∷ 0xE4 ∷ 0xBA ∷ 0x8C ∷ 0xF0 ∷ 0x90 ∷ 0x8C ∷ 0x82 ∷ []
+
+written : encodeAll (0x004D ∷ 0x0430 ∷ 0x4E8C ∷ 0x10302 ∷ []) ≡ four-bytes
+unfolding encodeAll encode four-bytes
+written = refl
+
+read : chars four-bytes ≡ 0x004D ∷ 0x0430 ∷ 0x4E8C ∷ 0x10302 ∷ []
+unfolding chars cut pieces next first readBy behind table begins joined four-bytes
+read = refl
+
+-- <F4 80 83 92> is well-formed; <C0 AF> and <E0 9F 80> are not, from their first byte on
+
+well-formed : validUpTo (0xF4 ∷ 0x80 ∷ 0x83 ∷ 0x92 ∷ []) ≡ 4
+unfolding validUpTo goodBytes width chars cut pieces next first readBy behind table begins joined
+well-formed = refl
+
+no-first-byte : validUpTo (0xC0 ∷ 0xAF ∷ []) ≡ 0
+unfolding validUpTo goodBytes width chars cut pieces next first readBy behind table begins joined
+no-first-byte = refl
+
+no-second-byte : validUpTo (0xE0 ∷ 0x9F ∷ 0x80 ∷ []) ≡ 0
+unfolding validUpTo goodBytes width chars cut pieces next first readBy behind table begins joined
+no-second-byte = refl
+
+-- a surrogate is no scalar value, and its bytes are none
+surrogate : isScalar 0xD800 ≡ false
+unfolding isScalar
+surrogate = refl
+
+surrogate-bytes : chars (0x41 ∷ 0xED ∷ 0xA0 ∷ 0x80 ∷ []) ≡ 0x41 ∷ 1114349 ∷ 1114272 ∷ 1114240 ∷ []
+unfolding chars cut pieces next first readBy behind table begins joined
+surrogate-bytes = refl
