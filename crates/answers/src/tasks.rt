@@ -44,7 +44,7 @@ fn characters(text: &[u8]) -> usize {
     count
 }
 
-// utf8 HEX: 0 and the number of characters, or 3 and the length of the longest well-formed beginning.
+// utf8 HEX: 0 and the number of characters, or the refusal: 3 and the length of the longest well-formed beginning.
 fn utf8(arguments: &[u8], room: &mut [u8], out: &mut [u8], used: usize) -> usize {
     let bytes = words::hex(arguments, room);
     if !bytes.right {
@@ -52,12 +52,12 @@ fn utf8(arguments: &[u8], room: &mut [u8], out: &mut [u8], used: usize) -> usize
     }
     let n = bytes.count;
     let text = &room[0..n];
-    let place = unicode::utf8::valid_up_to(text);
-    if place < text.len() {
-        let used = put_all(out, used, b"3 ");
-        return put_number(out, used, place as u64);
+    let checked = text::check_text(text);
+    let used = put_number(out, used, checked.number as u64);
+    let used = put(out, used, b' ');
+    if checked.number != text::DONE {
+        return put_number(out, used, checked.also);
     }
-    let used = put_all(out, used, b"0 ");
     put_number(out, used, characters(text) as u64)
 }
 

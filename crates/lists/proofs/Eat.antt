@@ -7,11 +7,7 @@ use mathlib.Core.Bool.{Bool, true, false}
 use mathlib.Core.List.{List, [], _∷_}
 use lib.ListN.{length}
 use Rattle.lists.specs.Eat.{eat}
-
--- by cases on a test, with what it says
-pub by-test : {P : Type 0} (b : Bool) → (b ≡ true → P) → (b ≡ false → P) → P
-by-test true f g = f refl
-by-test false f g = g refl
+use Rattle.lists.proofs.Bools.{by-test}
 
 module _ {A S : Type 0} (p : A → Bool) (g : S → A → S) where
   pub eat-nil : (s : S) → eat p g s [] ≡ (s, [])

@@ -7,10 +7,10 @@ use native.Mathlib.Omega.{arith}
 use lib.Dec.{ltb}
 use lib.ListN.{length}
 use borrow.Author.Tests.{lt-ltb, le-ltb, ltb-false}
-use Rattle.lists.proofs.Eat.{by-test}
-use Rattle.unicode.specs.Utf8.{validUpTo, WellFormed}
+use Rattle.lists.proofs.Bools.{by-test}
+use Rattle.unicode.specs.Utf8.{validUpTo}
 use Rattle.unicode.proofs.Valid.{valid-within}
-use Rattle.text.specs.Answer.{Answered, done, tooLong, notUtf8, longest, checkText}
+use Rattle.text.specs.Answer.{Answered, done, tooLong, notUtf8, longest, checkText, Accepted}
 
 module _ (s : List ℕ) {number also : ℕ} where
   pub text-long : longest < length s → number ≡ tooLong → also ≡ 0 → Answered (checkText s) number also
@@ -30,10 +30,6 @@ module _ (s : List ℕ) {number also : ℕ} where
 pub ruleset ways = (text-long, text-bad, text-fine)
 
 -- a text that is not refused is short enough and well-formed
-pub record Accepted (s : List ℕ) : Type 0 where
-  pub short : length s ≤ longest
-  pub good : WellFormed s
-
 pub accepted : (s : List ℕ) → checkText s .0 ≡ done → Accepted s
 unfolding checkText
 accepted s h =

@@ -3,10 +3,10 @@
 use mathlib.Core.Path.{_≡_, sym, _∙_}
 use mathlib.Core.Bool.{cond}
 use mathlib.Core.List.{List}
-use Prim.Native.Nat.{ℕ}
+use Prim.Native.Nat.{ℕ, _≤_}
 use lib.Dec.{ltb, eqb}
 use lib.ListN.{length}
-use Rattle.unicode.specs.Utf8.{validUpTo}
+use Rattle.unicode.specs.Utf8.{validUpTo, WellFormed}
 
 -- ---- the numbers
 abbrev pub done : ℕ
@@ -51,3 +51,8 @@ checkUtf8 s = cond (ltb (validUpTo s) (length s)) (notUtf8, validUpTo s) (done, 
 
 unfoldable pub checkText : List ℕ → ℕ × ℕ
 checkText s = checkLength s andThen checkUtf8 s
+
+-- what passes: a text that is short enough and well-formed
+pub record Accepted (s : List ℕ) : Type 0 where
+  pub short : length s ≤ longest
+  pub good : WellFormed s

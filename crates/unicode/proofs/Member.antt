@@ -6,7 +6,7 @@ use mathlib.Core.List.{List, [], _∷_}
 use Prim.Native.Nat.{ℕ, _≤_, _<_}
 use lib.Dec.{leb}
 use borrow.Author.Tests.{lt-ltb, le-ltb, le-leb, lt-leb, leb-true}
-use Rattle.lists.proofs.Eat.{by-test}
+use Rattle.lists.proofs.Bools.{by-test}
 use Rattle.unicode.specs.Ranges.{Range, _to_, inRange, inTable}
 use Rattle.unicode.specs.Search.{searched}
 use Rattle.unicode.specs.Properties.{testedIn}

@@ -72,8 +72,8 @@ pub ruleset few-bytes = (two-no, two-yes, three-no, three-no-2, three-yes, four-
 front : (s : List ℕ) (at : ℕ) → at < length s → first (drop at s) ≡ first (getD s at 0 ∷ drop (suc at) s)
 front s at l = ap first (drop-cons s at 0 l)
 
-behind : (s : List ℕ) (at k n : ℕ) → suc at + k ≡ n → getD (drop (suc at) s) k 0 ≡ getD s n 0
-behind s at k n e = getD-drop (suc at) s k 0 ∙ ap (λ (m : ℕ). getD s m 0) e
+byte-behind : (s : List ℕ) (at k n : ℕ) → suc at + k ≡ n → getD (drop (suc at) s) k 0 ≡ getD s n 0
+byte-behind s at k n e = getD-drop (suc at) s k 0 ∙ ap (λ (m : ℕ). getD s m 0) e
 
 module _ (s : List ℕ) (at : ℕ) {code wide : ℕ} where
   decoded-by : {x : ℕ × ℕ} → first (drop at s) ≡ x → Reads x code wide → Decoded s at code wide
@@ -96,20 +96,20 @@ module _ (s : List ℕ) (at : ℕ) {code wide : ℕ} where
 
     pub decoded-two : {b : ℕ} → Reads (two (getD s at 0) b) code wide → b ≡ getD s (at + 1) 0 → 0xC2 ≤ getD s at 0 → getD s at 0 < 0xE0 → Decoded s at code wide
     decoded-two r p g h =
-        decoded-by (front s at l ∙ first-2 (getD s at 0) (drop (suc at) s) g (omega arith) ∙ rw (behind s at 0 (at + 1) (omega arith), ← p)) r
+        decoded-by (front s at l ∙ first-2 (getD s at 0) (drop (suc at) s) g (omega arith) ∙ rw (byte-behind s at 0 (at + 1) (omega arith), ← p)) r
 
     pub decoded-three : {b c : ℕ} → Reads (three (getD s at 0) b c) code wide → b ≡ getD s (at + 1) 0 → c ≡ getD s (at + 2) 0 → 0xE0 ≤ getD s at 0 → getD s at 0 < 0xF0 → Decoded s at code wide
     decoded-three r p q g h =
         decoded-by
         (front s at l ∙ first-3 (getD s at 0) (drop (suc at) s) g (omega arith)
-        ∙ rw (behind s at 0 (at + 1) (omega arith), behind s at 1 (at + 2) (omega arith), ← p, ← q))
+        ∙ rw (byte-behind s at 0 (at + 1) (omega arith), byte-behind s at 1 (at + 2) (omega arith), ← p, ← q))
         r
 
     pub decoded-four : {b c d : ℕ} → Reads (four (getD s at 0) b c d) code wide → b ≡ getD s (at + 1) 0 → c ≡ getD s (at + 2) 0 → d ≡ getD s (at + 3) 0 → 0xF0 ≤ getD s at 0 → getD s at 0 < 0xF5 → Decoded s at code wide
     decoded-four r p q m g h =
         decoded-by
         (front s at l ∙ first-4 (getD s at 0) (drop (suc at) s) g (omega arith)
-        ∙ rw (behind s at 0 (at + 1) (omega arith), behind s at 1 (at + 2) (omega arith), behind s at 2 (at + 3) (omega arith), ← p, ← q, ← m))
+        ∙ rw (byte-behind s at 0 (at + 1) (omega arith), byte-behind s at 1 (at + 2) (omega arith), byte-behind s at 2 (at + 3) (omega arith), ← p, ← q, ← m))
         r
 
 pub ruleset at-place = (decoded-past, decoded-ascii, decoded-none, decoded-over, decoded-two, decoded-three, decoded-four)

@@ -1,5 +1,5 @@
--- The tables: one test, computed once over each whole table, says that it is sorted and its ranges disjoint, and a lemma carries it to
--- each entry. So the search in it is membership, ASCII can be decided first, and only scalar values are in it: one law for every table.
+-- The tables: one test, `rises`, computed once over each whole table, says that it is sorted and its ranges disjoint, and a lemma carries
+-- it to each entry. So the search in it is membership, ASCII can be decided first, and only scalar values are in it: one law for every table.
 -- Assumes nothing.
 use mathlib.Core.Path.{_≡_, refl, sym}
 use mathlib.Core.Bool.{Bool, true, false, _&&_, _||_, false≢true}
@@ -10,18 +10,14 @@ use native.Mathlib.Omega.{arith}
 use lib.Dec.{T, leb, ltb, leb→le}
 use lib.ListN.{length, getD, drop}
 use borrow.Author.Tests.{lt-leb, leb-true, ltb-true}
-use Rattle.lists.proofs.Eat.{by-test}
+use Rattle.lists.proofs.Bools.{by-test, both-T}
 use Rattle.unicode.specs.Utf8.{isScalar}
 use Rattle.unicode.specs.Ranges.{Range, _to_, inTable, flat}
 use Rattle.unicode.specs.Ucd.{xidStart, xidContinue, emoji, whiteSpace}
+use Rattle.unicode.specs.Order.{Sorted, rises, InOrder}
 use Rattle.unicode.specs.Properties.{isXidStart, isXidContinue, isEmoji, isWhiteSpace, asciiStart, asciiContinue, asciiEmoji, asciiSpace, testedIn}
 use Rattle.unicode.proofs.First.{scalar-low, scalar-high}
-use Rattle.unicode.proofs.Search.{Sorted, searched-is}
-
--- ---- the test: from p on, each range begins at or after its bound and ends at or after its beginning, and the next begins after its end
-abbrev pub rises : ℕ → List Range → Bool
-rises p [] = true
-rises p (lo to hi ∷ t) = leb p lo && (leb lo hi && rises (suc hi) t)
+use Rattle.unicode.proofs.Search.{searched-is, even, odd}
 
 parts : (a b c : Bool) → T (a && (b && c)) → T a × T b × T c
 parts true true c t = (tt, tt, t)
@@ -65,12 +61,6 @@ sorted-from p (x to y ∷ t) r (suc (suc i)) (suc zero) h l = absurd (omega arit
 sorted-from p (x to y ∷ t) r (suc (suc i)) (suc (suc j)) h l = sorted-from (suc y) t (first-of p x y t r .rest) i j (omega arith) (omega arith)
 
 -- disjoint: each range ends before a later one begins
-odd : (i : ℕ) → 2 * suc i + 1 ≡ suc (suc (2 * i + 1))
-odd i = omega arith
-
-even : (i : ℕ) → 2 * suc i ≡ suc (suc (2 * i))
-even i = omega arith
-
 apart : (p : ℕ) (t : List Range) → T (rises p t) → (i j : ℕ) → i < j → 2 * j < length (flat t) → getD (flat t) (2 * i + 1) 0 < getD (flat t) (2 * j) 0
 apart p [] r i j h l = absurd (omega arith)
 apart p (x to y ∷ t) r i zero h l = absurd (omega arith)
@@ -93,11 +83,11 @@ only-first p c [] t r h = none-below p c t r h
 only-first p c (x ∷ s) t r h = rw (only-first p c s t r h)
 
 -- the second part begins at p or after it
-abbrev begins : ℕ → List Range → Bool
-begins p [] = true
-begins p (lo to hi ∷ t) = leb p lo
+abbrev starts : ℕ → List Range → Bool
+starts p [] = true
+starts p (lo to hi ∷ t) = leb p lo
 
-raised : (q p : ℕ) (t : List Range) → T (rises q t) → T (begins p t) → T (rises p t)
+raised : (q p : ℕ) (t : List Range) → T (rises q t) → T (starts p t) → T (rises p t)
 raised q p [] r b = tt
 raised q p (x to y ∷ t) r b =
     let h = parts (leb q x) (leb x y) (rises (suc y) t) r in
@@ -108,21 +98,16 @@ raised q p (x to y ∷ t) r b =
     join true false c p q r = q
     join false b c p q r = p
 
-second-rises : (q p : ℕ) (s t : List Range) → T (rises q (s ++ t)) → T (begins p t) → T (rises p t)
+second-rises : (q p : ℕ) (s t : List Range) → T (rises q (s ++ t)) → T (starts p t) → T (rises p t)
 second-rises q p [] t r b = raised q p t r b
 second-rises q p (x to y ∷ s) t r b = second-rises (suc y) p s t (first-of q x y (s ++ t) r .rest) b
 
 -- ---- what the test says of a table, and so of each entry
-pub record InOrder (t : List Range) : Type 0 where
-  pub rise : T (rises 0 t)
-  pub sorted : Sorted (flat t)
-  pub disjoint : (i j : ℕ) → i < j → 2 * j < length (flat t) → getD (flat t) (2 * i + 1) 0 < getD (flat t) (2 * j) 0
-
 in-order : (t : List Range) → T (rises 0 t) → InOrder t
 in-order t r = record { rise = r; sorted = sorted-from 0 t r; disjoint = apart 0 t r }
 
 -- in a table in order, whose ranges below 80 stand first, the test over the lent list is membership
-pub tested-is : (ascii rest : List Range) → InOrder (ascii ++ rest) → T (begins 0x80 rest) → (c : ℕ) → testedIn ascii (flat (ascii ++ rest)) c ≡ inTable c (ascii ++ rest)
+pub tested-is : (ascii rest : List Range) → InOrder (ascii ++ rest) → T (starts 0x80 rest) → (c : ℕ) → testedIn ascii (flat (ascii ++ rest)) c ≡ inTable c (ascii ++ rest)
 unfolding testedIn
 tested-is ascii rest o b c =
     by-test (ltb c 0x80)
@@ -133,10 +118,6 @@ tested-is ascii rest o b c =
 abbrev pub scalars : List Range → Bool
 scalars [] = true
 scalars (lo to hi ∷ t) = (ltb hi 0xD800 || (leb 0xE000 lo && leb hi 0x10FFFF)) && scalars t
-
-both : (p q : Bool) → T (p && q) → T p × T q
-both true q t = (tt, t)
-both false q t = absurd t
 
 -- c in a range of scalar values is one
 range-scalar : (lo hi c : ℕ) (p q r : Bool) → ltb hi 0xD800 ≡ p → leb 0xE000 lo ≡ q → leb hi 0x10FFFF ≡ r → T (p || (q && r)) → lo ≤ c → c ≤ hi → isScalar c ≡ true
@@ -149,7 +130,7 @@ pub scalar-in : (t : List Range) → T (scalars t) → (c : ℕ) → inTable c t
 unfolding inTable
 scalar-in [] s c h = absurd (false≢true h)
 scalar-in (lo to hi ∷ t) s c h =
-    let p = both (ltb hi 0xD800 || (leb 0xE000 lo && leb hi 0x10FFFF)) (scalars t) s in
+    let p = both-T (ltb hi 0xD800 || (leb 0xE000 lo && leb hi 0x10FFFF)) (scalars t) s in
     by-test (leb lo c)
     (λ a. by-test (leb c hi)
     (λ b. range-scalar lo hi c (ltb hi 0xD800) (leb 0xE000 lo) (leb hi 0x10FFFF) refl refl refl (p .0) (leb-true lo c a) (leb-true c hi b))

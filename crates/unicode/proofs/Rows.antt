@@ -1,7 +1,7 @@
 -- Table 3-7 by the five kinds of first byte: what the table says of each is computed at every byte, once for each kind.
 -- Assumes nothing.
 use mathlib.Core.Path.{_≡_, refl, ap}
-use mathlib.Core.Bool.{Bool, true, false, _&&_, _||_, not, false≢true}
+use mathlib.Core.Bool.{Bool, true, false, _&&_, _||_, not}
 use mathlib.Core.List.{List, [], _∷_}
 use mathlib.Core.Option.{Option, none, some}
 use Prim.Native.Nat.{ℕ, zero, suc, _+_, _*_, _%_, _≤_, _<_}
@@ -10,6 +10,7 @@ use native.Mathlib.Omega.{arith}
 use lib.Dec.{T, leb, eqb, lit≤, eqb→eq, leb→le}
 use lib.ListN.{getD}
 use borrow.Author.Tests.{le-leb, lt-leb, leb-true}
+use Rattle.lists.proofs.Bools.{and-false, and-true, both, both-T}
 use Rattle.unicode.specs.Ranges.{Range, _to_, inRange}
 use Rattle.unicode.specs.Utf8.{Row, row, table, behind, begins, joined, noChar, readBy, first}
 use Rattle.unicode.specs.Wide.{low, high, follows, two, three, four}
@@ -19,14 +20,10 @@ abbrev every : (ℕ → Bool) → ℕ → Bool
 every f zero = true
 every f (suc n) = f n && every f n
 
-and-T : (p q : Bool) → T (p && q) → T p × T q
-and-T true q t = (tt, t)
-and-T false q t = absurd t
-
 each : (f : ℕ → Bool) (n : ℕ) → T (every f n) → (k : ℕ) → k < n → T (f k)
 each f zero t k h = absurd (omega arith)
 each f (suc n) t k h =
-    let p : T (f n) × T (every f n) = and-T (f n) (every f n) t in
+    let p : T (f n) × T (every f n) = both-T (f n) (every f n) t in
     elim (ℕ-discrete k n) [ yes e ↦ rw e (p .0) | no x ↦ each f n (p .1) k (omega arith) ]
 
 -- ---- what stands behind a first byte, against what is claimed
@@ -47,8 +44,8 @@ ranges-same [] [] t = refl
 ranges-same [] (r ∷ m) t = absurd t
 ranges-same (r ∷ l) [] t = absurd t
 ranges-same (x to y ∷ l) (x′ to y′ ∷ m) t =
-    let p : T (eqb x x′) × T (eqb y y′ && same-ranges l m) = and-T (eqb x x′) (eqb y y′ && same-ranges l m) t in
-    let q : T (eqb y y′) × T (same-ranges l m) = and-T (eqb y y′) (same-ranges l m) (p .1) in
+    let p : T (eqb x x′) × T (eqb y y′ && same-ranges l m) = both-T (eqb x x′) (eqb y y′ && same-ranges l m) t in
+    let q : T (eqb y y′) × T (same-ranges l m) = both-T (eqb y y′) (same-ranges l m) (p .1) in
     rw (eqb→eq x x′ (p .0), eqb→eq y y′ (q .0), ranges-same l m (q .1))
 
 behind-same : (l m : Option (List Range)) → T (same-behind l m) → l ≡ m
@@ -69,15 +66,11 @@ abbrev under : ℕ → List Row → Bool
 under p [] = true
 under p (row (f to g) more ∷ t) = leb g p && under p t
 
-pub and-false : (p : Bool) → (p && false) ≡ false
-and-false true = refl
-and-false false = refl
-
 none-behind : (p a : ℕ) (t : List Row) → T (under p t) → p < a → behind a t ≡ none
 unfolding behind
 none-behind p a [] u h = refl
 none-behind p a (row (f to g) more ∷ t) u h =
-    let q : T (leb g p) × T (under p t) = and-T (leb g p) (under p t) u in
+    let q : T (leb g p) × T (under p t) = both-T (leb g p) (under p t) u in
     simp (lt-leb a g (omega (arith, leb→le g p (q .0))), and-false, none-behind p a t (q .1) h)
 
 abbrev want-3 : ℕ → Option (List Range)
@@ -131,10 +124,6 @@ pub high-le : (a : ℕ) → high a ≤ 0xBF
 high-le a = high-most a (eqb a 0xED) (eqb a 0xF4) refl refl
 
 -- ---- the first character by its first byte; past the end a byte counts as 0
-and-true : (p : Bool) → (p && true) ≡ p
-and-true true = refl
-and-true false = refl
-
 past-low : (a : ℕ) → leb (low a) 0 ≡ false
 past-low a = lt-leb (low a) 0 (omega (arith, low-ge a))
 
@@ -184,10 +173,6 @@ module _ (a : ℕ) where
   first-4 s g h = rw (behind-4 a g h) (read-4 s)
 
 -- ---- what the bytes of a character are
-both : (p q : Bool) → p && q ≡ true → (p ≡ true) × (q ≡ true)
-both true q e = (refl, e)
-both false q e = absurd (false≢true e)
-
 -- b lies in a range
 pub record In (lo hi b : ℕ) : Type 0 where
   pub over : lo ≤ b

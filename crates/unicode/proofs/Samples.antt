@@ -1,22 +1,22 @@
 -- The Standard's own examples, computed: those of D92 and of the text under Table 3-7.
 -- Assumes nothing.
 use mathlib.Core.Path.{_≡_, refl}
-use mathlib.Core.Bool.{Bool, true, false}
+use mathlib.Core.Bool.{false}
 use mathlib.Core.List.{List, [], _∷_}
 use Prim.Native.Nat.{ℕ}
 use Rattle.lists.specs.Cut.{pieces, cut}
 use Rattle.unicode.specs.Utf8.{table, behind, begins, joined, readBy, first, next, chars, isScalar, width, encode, encodeAll, goodBytes, validUpTo}
 
 -- <004D, 0430, 4E8C, 10302> is <4D D0 B0 E4 BA 8C F0 90 8C 82>
-four-bytes : List ℕ
-four-bytes = 0x4D ∷ 0xD0 ∷ 0xB0 ∷ 0xE4 ∷ 0xBA ∷ 0x8C ∷ 0xF0 ∷ 0x90 ∷ 0x8C ∷ 0x82 ∷ []
+example : List ℕ
+example = 0x4D ∷ 0xD0 ∷ 0xB0 ∷ 0xE4 ∷ 0xBA ∷ 0x8C ∷ 0xF0 ∷ 0x90 ∷ 0x8C ∷ 0x82 ∷ []
 
-written : encodeAll (0x004D ∷ 0x0430 ∷ 0x4E8C ∷ 0x10302 ∷ []) ≡ four-bytes
-unfolding encodeAll encode four-bytes
+written : encodeAll (0x004D ∷ 0x0430 ∷ 0x4E8C ∷ 0x10302 ∷ []) ≡ example
+unfolding encodeAll encode example
 written = refl
 
-read : chars four-bytes ≡ 0x004D ∷ 0x0430 ∷ 0x4E8C ∷ 0x10302 ∷ []
-unfolding chars cut pieces next first readBy behind table begins joined four-bytes
+read : chars example ≡ 0x004D ∷ 0x0430 ∷ 0x4E8C ∷ 0x10302 ∷ []
+unfolding chars cut pieces next first readBy behind table begins joined example
 read = refl
 
 -- <F4 80 83 92> is well-formed; <C0 AF> and <E0 9F 80> are not, from their first byte on

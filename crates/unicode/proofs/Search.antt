@@ -1,4 +1,4 @@
--- The search by halves: each step of it, for every list; and on a list that rises, that it is membership, for every table at once.
+-- The binary search: each step of it, for every list; and on a list that rises, that it is membership, for every table at once.
 -- Assumes nothing.
 use mathlib.Core.Path.{_≡_, refl, sym, _∙_}
 use mathlib.Core.Bool.{Bool, true, false, _&&_, _||_}
@@ -9,8 +9,10 @@ use native.Mathlib.Omega.{arith}
 use lib.Dec.{leb}
 use lib.ListN.{length, getD}
 use borrow.Author.Tests.{lt-ltb, le-ltb, le-leb, leb-true}
+use Rattle.lists.proofs.Bools.{or-true}
 use Rattle.unicode.specs.Ranges.{Range, _to_, inTable, flat}
 use Rattle.unicode.specs.Search.{middle, halving, searched}
+use Rattle.unicode.specs.Order.{Sorted}
 
 -- ---- the steps
 module _ (n : ℕ) (t : List ℕ) (c lo hi : ℕ) where
@@ -111,15 +113,11 @@ unfolding inTable inEnds
 by-ends c [] = refl
 by-ends c (x to y ∷ t) = rw (by-ends c t)
 
-even : (k : ℕ) → 2 * suc k ≡ suc (suc (2 * k))
+pub even : (k : ℕ) → 2 * suc k ≡ suc (suc (2 * k))
 even k = omega arith
 
-odd : (k : ℕ) → 2 * suc k + 1 ≡ suc (suc (2 * k + 1))
+pub odd : (k : ℕ) → 2 * suc k + 1 ≡ suc (suc (2 * k + 1))
 odd k = omega arith
-
-or-true : (b : Bool) → (b || true) ≡ true
-or-true true = refl
-or-true false = refl
 
 -- a range that holds c puts c in, and where none does it is not
 hit : (t : List ℕ) (c k : ℕ) → 2 * k + 1 < length t → getD t (2 * k) 0 ≤ c → c ≤ getD t (2 * k + 1) 0 → inEnds c t ≡ true
@@ -140,10 +138,6 @@ miss [] c h = refl
 miss (x ∷ []) c h = refl
 miss (x ∷ y ∷ t) c h =
     simp (outside x y c (leb x c) (leb c y) refl refl (h 0 (omega arith)), miss t c (λ k l a b. h (suc k) (omega arith) (rw even a) (rw odd b)))
-
--- ---- no number of the list is above a later one
-unfoldable pub Sorted : List ℕ → Type 0
-Sorted t = (i j : ℕ) → i ≤ j → j < length t → getD t i 0 ≤ getD t j 0
 
 -- the ranges before lo end below c, and those from hi on begin above it
 record Bracket (t : List ℕ) (c lo hi : ℕ) : Type 0 where

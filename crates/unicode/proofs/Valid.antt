@@ -6,15 +6,15 @@ use native.Mathlib.Omega.{arith}
 use native.Mathlib.Nat.{add-zero}
 use mathlib.Core.Path.{_≡_, refl, ap, sym, _∙_}
 use mathlib.Core.Logic.{_↔_}
-use mathlib.Core.Bool.{Bool, true, false, _&&_, cond, false≢true}
+use mathlib.Core.Bool.{true, cond}
 use mathlib.Core.List.{List, [], _∷_, _++_, append-assoc, append-nil}
 use lib.ListN.{length, drop, take, getD, length-drop, length-append, take-append-drop}
 use lib.Seq.{drop-cons, drop-at, take-length, take-add, length-take-le, take-nil}
 use lib.Dec.{ltb}
 use borrow.Author.Tests.{lt-ltb, le-ltb, ltb-true}
 use Rattle.lists.proofs.Cut.{by-length}
-use Rattle.lists.proofs.Eat.{by-test}
-use Rattle.unicode.specs.Utf8.{first, chars, width, isChar, isScalar, allScalar, encode, encodeAll, goodBytes, validUpTo, WellFormed}
+use Rattle.lists.proofs.Bools.{by-test, both}
+use Rattle.unicode.specs.Utf8.{first, chars, width, isChar, isScalar, allScalar, encode, encodeAll, goodBytes, validUpTo, WellFormed, Encoded}
 use Rattle.unicode.specs.Text.{bytes, left, Decoded, Point, Passed}
 use Rattle.unicode.proofs.First.{fine}
 use Rattle.unicode.proofs.Encode.{scalar, encode-long, back, forth}
@@ -72,10 +72,6 @@ width-some c =
     (λ i. by-test (ltb c 0x10000) (λ j. rw (h, i, j) (omega arith))
     (λ j. by-test (isChar c) (λ k. rw (h, i, j, k) (omega arith)) (λ k. rw (h, i, j, k) (omega arith)))))
 
-all-first : (p q : Bool) → p && q ≡ true → (p ≡ true) × (q ≡ true)
-all-first true q e = (refl, e)
-all-first false q e = absurd (false≢true e)
-
 pub chars-encode : (c : ℕ) (s : List ℕ) → isScalar c ≡ true → chars (encode c ++ s) ≡ c ∷ chars s
 chars-encode c s h =
     let l : c < 1114112 = omega (arith, scalar c h .top) in
@@ -88,7 +84,7 @@ pub read-back : (cs s : List ℕ) → allScalar cs ≡ true → chars (encodeAll
 unfolding allScalar encodeAll
 read-back [] s h = refl
 read-back (c ∷ cs) s h =
-    let p = all-first (isScalar c) (allScalar cs) h in
+    let p = both (isScalar c) (allScalar cs) h in
     rw append-assoc (chars-encode c (encodeAll cs ++ s) (p .0) ∙ rw (read-back cs s (p .1)))
 
 -- and every byte of it counts
@@ -96,7 +92,7 @@ pub valid-encoded : (cs s : List ℕ) → allScalar cs ≡ true → validUpTo (e
 unfolding allScalar encodeAll validUpTo goodBytes
 valid-encoded [] s h = omega arith
 valid-encoded (c ∷ cs) s h =
-    let p = all-first (isScalar c) (allScalar cs) h in
+    let p = both (isScalar c) (allScalar cs) h in
     let l : c < 1114112 = omega (arith, scalar c (p .0) .top) in
     rw (append-assoc, chars-encode c (encodeAll cs ++ s) (p .0), lt-ltb c 1114112 l, length-append (encode c) (encodeAll cs))
     (omega (arith, encode-long c l, valid-encoded cs s (p .1)))
@@ -150,11 +146,6 @@ pub longest-well-formed : (s : List ℕ) → WellFormed (take (validUpTo s) s)
 longest-well-formed s = let b = beginning s in rw (b .written) at (encoded-well-formed (good (chars s)) (b .scalars))
 
 -- ---- the well-formed texts are exactly the encodings of lists of scalar values
-pub record Encoded (s : List ℕ) : Type 0 where
-  pub of : List ℕ
-  pub scalars : allScalar of ≡ true
-  pub same : s ≡ encodeAll of
-
 pub well-formed-encoded : (s : List ℕ) → WellFormed s → Encoded s
 well-formed-encoded s h =
     let b = beginning s in

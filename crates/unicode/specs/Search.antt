@@ -1,4 +1,4 @@
--- A search by halves in a list of numbers that are to be the ends of ranges in turn: what it answers on any list, sorted or not.
+-- A binary search in a list of numbers that are to be the ends of ranges in turn: what it answers on any list, sorted or not.
 -- On a table's own list that is membership in the table (`proofs/Search.antt`).
 -- Assumes nothing.
 use mathlib.Core.Bool.{Bool, true, false}

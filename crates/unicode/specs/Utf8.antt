@@ -115,3 +115,9 @@ validUpTo s = goodBytes (chars s)
 -- a text is well-formed where that is all of it
 abbrev pub WellFormed : List ℕ → Type 0
 WellFormed s = validUpTo s ≡ length s
+
+-- a text is written by a list of scalar values
+pub record Encoded (s : List ℕ) : Type 0 where
+  pub of : List ℕ
+  pub scalars : allScalar of ≡ true
+  pub same : s ≡ encodeAll of

@@ -1,6 +1,6 @@
 // The tests of a code point: XID_Start, XID_Continue, Emoji and White_Space of the Unicode Character Database.
 // A constant that is lent is stored anew where its function starts, so each test has a form that takes the property's table
-// as a slice: who asks of many characters lends it once. ASCII is decided before any table, and so the function that lends
+// as a slice: a caller that asks about many characters lends it once. ASCII is decided before any table, and so the function that lends
 // the constant is one of its own.
 ghost use mathlib.Core.Path.{_≡_};
 ghost use Rattle.unicode.specs.Ranges.{inTable, flat};

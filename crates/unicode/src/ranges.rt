@@ -12,7 +12,7 @@ pub fn in_range(lo: u8, hi: u8, b: u8) -> bool
     b <= hi
 }
 
-// Whether c lies in a range of the table, by halves.
+// Whether c lies in a range of the table: a binary search.
 pub fn search(table: &[u32], c: u32) -> bool
     ensures { λ r. ⌜ r ≡ searched (now (table .entry)) c ⌝ }
 {

@@ -7,7 +7,13 @@ ghost use Rattle.unicode.specs.Wide.{Reads, low, high, two, three, four}
 ghost use Rattle.unicode.specs.Text.{Decoded, Passed};
 use crate::ranges::in_range;
 
-// A character, and how many bytes it takes. A byte that begins no well-formed sequence is read as no character: 1,114,112
+// Where the numbers begin that are no characters.
+pub const NO_CHAR: u32 = 1114112;
+
+// How many bytes are looked at together where the text is ASCII.
+const BLOCK: usize = 32;
+
+// A character, and how many bytes it takes. A byte that begins no well-formed sequence is read as no character: NO_CHAR
 // more than the byte, one byte wide.
 pub struct Char {
     pub code: u32,
@@ -18,7 +24,7 @@ fn no_char(b: u8) -> Char
     ensures { λ r. ⌜ Reads (noChar b, 1) (r .code) (r .wide) ⌝ }
 {
     Char {
-        code: 1114112 + b as u32,
+        code: NO_CHAR + b as u32,
         wide: 1,
     }
 }
@@ -137,7 +143,7 @@ fn top(text: &[u8], at: usize) -> u8
 {
     let mut m: u8 = 0;
     let mut i: usize = 0;
-    while i < 32 {
+    while i < BLOCK {
         let b = text[at + i];
         if m < b {
             m = b;
@@ -153,11 +159,11 @@ fn skip_blocks(text: &[u8], from: usize) -> usize
     ensures { λ r. ⌜ Passed (now (text .entry)) from r ⌝ }
 {
     let mut at = from;
-    while 32 <= text.len() - at {
+    while BLOCK <= text.len() - at {
         if 0x7F < top(text, at) {
             return at;
         }
-        at = at + 32;
+        at = at + BLOCK;
     }
     at
 }
@@ -170,7 +176,7 @@ fn skip_chars(text: &[u8], from: usize, stop: usize) -> usize
     let mut at = from;
     while at < stop {
         let c = decode(text, at);
-        if 1114112 <= c.code {
+        if NO_CHAR <= c.code {
             return at;
         }
         at = at + c.wide;
@@ -183,7 +189,11 @@ fn next_stop(from: usize, end: usize) -> usize
     requires { ⌜ from ≤ end ⌝ }
     ensures { λ r. ⌜ (min end (from + 1) ≤ r) × (r ≤ end) ⌝ }
 {
-    if 32 < end - from { from + 32 } else { end }
+    if BLOCK < end - from {
+        from + BLOCK
+    } else {
+        end
+    }
 }
 
 // The length of the longest well-formed beginning: by blocks where the text is ASCII, and where it is not, by characters

@@ -1,10 +1,10 @@
-use borrow.Author.Tests.{eq-eqb, ne-eqb}
+use borrow.Author.Tests.{ne-eqb}
 use borrow.Author.Needs.{needs}
 use Rattle.lexer.proofs.is_id_start.Statement.{statement}
 use Rattle.lexer.proofs.is_id_start.Tie as tie
 
 returns : tie.Need-returns
-returns c = rw (eq-eqb _ _ (c .if1 .taken))
+returns c = rw (c .if1 .taken)
 
 is-xid-start-requires : tie.Need-is-xid-start-requires
 is-xid-start-requires c κs = search needs

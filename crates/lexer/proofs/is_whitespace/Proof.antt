@@ -1,11 +1,13 @@
-use mathlib.Core.Path.{_≡_}
-use mathlib.Core.Logic.{⊎-elim, inl, inr}
+use mathlib.Core.Logic.{_⊎_, ⊎-elim, inl, inr}
 use native.Mathlib.Omega.{arith}
 use Rattle.unicode.specs.Ranges.{inTable}
 use Rattle.unicode.proofs.Member.{here, later, outside}
 use Rattle.lexer.specs.Chars.{whitespace}
 use Rattle.lexer.proofs.is_whitespace.Statement.{statement}
 use Rattle.lexer.proofs.is_whitespace.Tie as tie
+
+neither : {A B : Type 0} → ((A ⊎ B) → ⊥) → (A → ⊥) × (B → ⊥)
+neither h = (λ a. h (inl a), λ b. h (inr b))
 
 returns : tie.Need-returns
 unfolding whitespace
@@ -14,11 +16,8 @@ returns c = outside _ whitespace (omega arith)
 returns-2 : tie.Need-returns-2
 unfolding whitespace
 returns-2 c =
-    let r = c .before .before .before in
-    let x = r .before .args .c in
-    let p : x ≡ 0x20 → ⊥ = λ e. r .match .rest .1 (inl e) in
-    let q : x ≡ 0x85 → ⊥ = λ e. r .match .rest .1 (inr e) in
-    outside _ whitespace (omega arith)
+    let n = neither (c .before .before .before .match .rest .1) in
+    outside _ whitespace (omega (arith, n .0, n .1))
 
 returns-3 : tie.Need-returns-3
 unfolding whitespace
