@@ -36,3 +36,7 @@ pub fn put_number(out: &mut [u8], used: usize, number: u64) -> usize {
     let k = io::decimal(number, &mut digits);
     put_all(out, used, &digits[..k])
 }
+
+pub fn put_word(out: &mut [u8], used: usize, word: u32) -> usize {
+    put_number(out, used, word as u64)
+}

@@ -2,12 +2,17 @@
 use crate::output::put;
 use crate::output::put_all;
 use crate::output::put_number;
+use crate::output::put_word;
 use crate::words;
 use crate::words::Number;
+use text::Answer;
+
+// The most words of a list, three for each byte of the longest text.
+const LIST: usize = 98304;
 
 // The answer to what can't be read.
 fn refuse(out: &mut [u8], used: usize) -> usize {
-    put(out, used, b'?')
+    put_all(out, used, b"unreadable")
 }
 
 fn bit(b: bool) -> u8 {
@@ -53,12 +58,96 @@ fn utf8(arguments: &[u8], room: &mut [u8], out: &mut [u8], used: usize) -> usize
     let n = bytes.count;
     let text = &room[0..n];
     let checked = text::check_text(text);
-    let used = put_number(out, used, checked.number as u64);
+    let used = put_word(out, used, checked.number);
     let used = put(out, used, b' ');
     if checked.number != text::DONE {
         return put_number(out, used, checked.also);
     }
     put_number(out, used, characters(text) as u64)
+}
+
+// What stands before a word of a list.
+fn mark(i: usize, records: bool) -> u8 {
+    if i % 3 == 0 {
+        return b' ';
+    }
+    if records { b',' } else { b' ' }
+}
+
+// The words of the first n records of a list, joined by commas if they are to be read as `records`.
+fn put_words(out: &mut [u8], used: usize, list: &[u32], n: u64, records: bool) -> usize {
+    let mut total = used;
+    let mut i = 0;
+    while i < list.len() {
+        if n <= (i / 3) as u64 {
+            return total;
+        }
+        total = put(out, total, mark(i, records));
+        total = put_word(out, total, list[i]);
+        i += 1;
+    }
+    total
+}
+
+fn put_answer(out: &mut [u8], used: usize, given: Answer) -> usize {
+    let used = put_word(out, used, given.number);
+    let used = put(out, used, b' ');
+    put_number(out, used, given.also)
+}
+
+// The answer of `tokenize`, and the tokens where it is done.
+fn tokens(text: &[u8], profile: u32, list: &mut [u32], out: &mut [u8], used: usize) -> usize {
+    let given = lexer::list::tokenize(text, profile, list);
+    let used = put_answer(out, used, given);
+    if given.number != text::DONE {
+        return used;
+    }
+    put_words(out, used, list, given.also, true)
+}
+
+// tok PROFILE HEX: the tokens, in a list that has room for as many as the text has bytes.
+fn tok(arguments: &[u8], room: &mut [u8], out: &mut [u8], used: usize) -> usize {
+    let Number::Is(profile) = words::decimal(words::first(arguments)) else {
+        return refuse(out, used);
+    };
+    let bytes = words::hex(words::rest(arguments), room);
+    if !bytes.right {
+        return refuse(out, used);
+    }
+    let n = bytes.count;
+    let text = &room[0..n];
+    let mut list = [0u32; LIST];
+    tokens(text, profile, &mut list, out, used)
+}
+
+// The answer of `tokenize`, and every word of the list after it.
+fn words_after(text: &[u8], profile: u32, list: &mut [u32], out: &mut [u8], used: usize) -> usize {
+    let given = lexer::list::tokenize(text, profile, list);
+    let used = put_answer(out, used, given);
+    put_words(out, used, list, u64::MAX, false)
+}
+
+// tokroom PROFILE WORDS HEX: what `tokenize` answers and leaves in a list of so many words, so that a word that it doesn't write is seen.
+fn tokroom(arguments: &[u8], room: &mut [u8], out: &mut [u8], used: usize) -> usize {
+    let Number::Is(profile) = words::decimal(words::first(arguments)) else {
+        return refuse(out, used);
+    };
+    let behind = words::rest(arguments);
+    let Number::Is(size) = words::decimal(words::first(behind)) else {
+        return refuse(out, used);
+    };
+    let bytes = words::hex(words::rest(behind), room);
+    if !bytes.right {
+        return refuse(out, used);
+    }
+    let k = size as usize;
+    if LIST < k {
+        return refuse(out, used);
+    }
+    let n = bytes.count;
+    let text = &room[0..n];
+    let mut list = [0xA5A5A5A5u32; LIST];
+    words_after(text, profile, &mut list[0..k], out, used)
 }
 
 fn answer(line: &[u8], room: &mut [u8], out: &mut [u8], used: usize) -> usize {
@@ -70,7 +159,13 @@ fn answer(line: &[u8], room: &mut [u8], out: &mut [u8], used: usize) -> usize {
     if words::same(task, b"utf8") {
         return utf8(arguments, room, out, used);
     }
-    refuse(out, used)
+    if words::same(task, b"tok") {
+        return tok(arguments, room, out, used);
+    }
+    if words::same(task, b"tokroom") {
+        return tokroom(arguments, room, out, used);
+    }
+    put_all(out, used, b"unknown")
 }
 
 // The line, of which `have` bytes were read, and its answer. Of a line too long the buffer has the beginning.
@@ -83,7 +178,7 @@ pub fn answer_line(
 ) -> usize {
     if line.len() < have {
         let used = put_all(out, used, line);
-        return put_all(out, used, b" = ?\n");
+        return put_all(out, used, b" = unreadable\n");
     }
     let whole = &line[0..have];
     let used = put_all(out, used, whole);

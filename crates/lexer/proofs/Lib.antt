@@ -1,1 +1,12 @@
 pub mod Chars
+pub mod Unicode
+pub mod Flags
+pub mod Steps
+pub mod Blocks
+pub mod Digits
+pub mod Names
+pub mod Bodies
+pub mod Advancing
+pub mod Lengths
+pub mod Whole
+pub mod Unique

@@ -1,1 +1,6 @@
 pub mod Chars
+pub mod Kinds
+pub mod Cut
+pub mod Unicode
+pub mod Steps
+pub mod Outcome

@@ -1,6 +1,16 @@
-// The lexer's tests on single characters.
+// The lexer: how OpenQASM 3 text is cut into tokens.
 ghost use mathlib.Core.Path.{_≡_};
 ghost use Rattle.lexer.specs.Chars.{isWhitespace, isIdStart, isIdContinue};
+
+pub mod advance;
+mod comments;
+mod cursor;
+mod kinds;
+pub mod list;
+mod numbers;
+mod quotes;
+mod words;
+
 use unicode::properties::is_xid_continue;
 use unicode::properties::is_xid_start;
 

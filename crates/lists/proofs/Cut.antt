@@ -12,6 +12,17 @@ module _ {A B : Type 0} (next : A → List A → B × List A) where
   unfolding cut pieces
   cut-nil = refl
 
+  at-most : (n : ℕ) (l : List A) → length (pieces next n l) ≤ n
+  unfolding pieces
+  at-most zero l = omega arith
+  at-most (suc n) [] = omega arith
+  at-most (suc n) (a ∷ t) = omega (arith, at-most n (next a t .1))
+
+  -- no more pieces than elements
+  pub cut-few : (l : List A) → length (cut next l) ≤ length l
+  unfolding cut
+  cut-few l = at-most (length l) l
+
   module _ (less : (a : A) (t : List A) → length (next a t .1) ≤ length t) where
     enough : (n m : ℕ) (l : List A) → length l ≤ n → length l ≤ m → pieces next n l ≡ pieces next m l
     unfolding pieces

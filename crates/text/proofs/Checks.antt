@@ -6,11 +6,11 @@ use Prim.Native.Nat.{ℕ, _≤_, _<_}
 use native.Mathlib.Omega.{arith}
 use lib.Dec.{ltb}
 use lib.ListN.{length}
-use borrow.Author.Tests.{lt-ltb, le-ltb, ltb-false}
+use borrow.Author.Tests.{lt-ltb, le-ltb, ltb-true, ltb-false}
 use Rattle.lists.proofs.Bools.{by-test}
 use Rattle.unicode.specs.Utf8.{validUpTo}
 use Rattle.unicode.proofs.Valid.{valid-within}
-use Rattle.text.specs.Answer.{Answered, done, tooLong, notUtf8, longest, checkText, Accepted}
+use Rattle.text.specs.Answer.{Answered, done, tooLong, notUtf8, longest, checkText, checkCut, unknownSelector, Accepted}
 
 module _ (s : List ℕ) {number also : ℕ} where
   pub text-long : longest < length s → number ≡ tooLong → also ≡ 0 → Answered (checkText s) number also
@@ -41,3 +41,21 @@ accepted s h =
 pub not-refused : (s : List ℕ) → Accepted s → checkText s ≡ (done, 0)
 unfolding checkText
 not-refused s a = rw (le-ltb longest (length s) (a .short), le-ltb (validUpTo s) (length s) (omega (arith, a .good)))
+
+-- ---- with the profile first
+module _ (s : List ℕ) (p : ℕ) {number also : ℕ} where
+  pub cut-unknown : 2 ≤ p → number ≡ unknownSelector → also ≡ 0 → Answered (checkCut s p) number also
+  unfolding checkCut
+  cut-unknown h q r = rw (le-ltb p 2 h) (record { number-is = q; also-is = r })
+
+  pub cut-known : p < 2 → Answered (checkText s) number also → Answered (checkCut s p) number also
+  unfolding checkCut
+  cut-known h a = rw (lt-ltb p 2 h) a
+
+-- what passes has a known profile and is accepted
+pub cut-accepted : (s : List ℕ) (p : ℕ) → checkCut s p .0 ≡ done → (p < 2) × Accepted s
+unfolding checkCut
+cut-accepted s p h =
+    by-test (ltb p 2)
+    (λ e. (ltb-true p 2 e, accepted s (rw e at h)))
+    (λ e. absurd (omega (arith, rw e at h)))

@@ -1,7 +1,7 @@
 -- What comes back from every entry: a number, and what is also returned with it; and the checks that each entry that takes text begins with.
 -- Assumes nothing.
 use mathlib.Core.Path.{_≡_, sym, _∙_}
-use mathlib.Core.Bool.{cond}
+use mathlib.Core.Bool.{Bool, cond}
 use mathlib.Core.List.{List}
 use Prim.Native.Nat.{ℕ, _≤_}
 use lib.Dec.{ltb, eqb}
@@ -51,6 +51,21 @@ checkUtf8 s = cond (ltb (validUpTo s) (length s)) (notUtf8, validUpTo s) (done, 
 
 unfoldable pub checkText : List ℕ → ℕ × ℕ
 checkText s = checkLength s andThen checkUtf8 s
+
+-- the profiles that are known: 0 and 1
+abbrev pub knownProfile : ℕ → Bool
+knownProfile p = ltb p 2
+
+abbrev pub checkProfile : ℕ → ℕ × ℕ
+checkProfile p = cond (knownProfile p) (done, 0) (unknownSelector, 0)
+
+-- the checks of every entry that cuts tokens or makes keys
+unfoldable pub checkCut : List ℕ → ℕ → ℕ × ℕ
+checkCut s p = checkProfile p andThen checkText s
+
+-- room for `room` where `need` are needed
+abbrev pub checkRoom : ℕ → ℕ → ℕ × ℕ
+checkRoom room need = cond (ltb room need) (roomTooSmall, need) (done, need)
 
 -- what passes: a text that is short enough and well-formed
 pub record Accepted (s : List ℕ) : Type 0 where

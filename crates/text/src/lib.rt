@@ -1,5 +1,5 @@
 // What every entry answers, and the checks that every entry that takes text begins with.
-ghost use Rattle.text.specs.Answer.{Answered, checkText};
+ghost use Rattle.text.specs.Answer.{Answered, checkText, checkCut};
 use unicode::utf8::valid_up_to;
 
 // The number says how a call went, and `also` what comes with it.
@@ -22,6 +22,11 @@ pub const ROOM_TOO_SMALL: u32 = 4;
 // The most bytes that a text may have.
 pub const LONGEST: usize = 4294967295;
 
+// The profile of a caller that names none, and how many profiles there are.
+pub const DEFAULT_PROFILE: u32 = 0;
+
+pub const PROFILES: u32 = 2;
+
 // Refusal 2 for a text that is too long, then 3 for one that is not UTF-8, else 0; it writes nothing.
 pub fn check_text(text: &[u8]) -> Answer
     ensures { λ r. ⌜ Answered (checkText (now (text .entry))) (r .number) (r .also) ⌝ }
@@ -43,4 +48,17 @@ pub fn check_text(text: &[u8]) -> Answer
         number: DONE,
         also: 0,
     }
+}
+
+// Refusal 1 for an unknown profile, then what check_text refuses: for every entry that cuts tokens or makes keys.
+pub fn check_cut(text: &[u8], profile: u32) -> Answer
+    ensures { λ r. ⌜ Answered (checkCut (now (text .entry)) profile) (r .number) (r .also) ⌝ }
+{
+    if PROFILES <= profile {
+        return Answer {
+            number: UNKNOWN_SELECTOR,
+            also: 0,
+        };
+    }
+    check_text(text)
 }

@@ -110,14 +110,14 @@ pub skipped : {p : ℕ → Bool} {s : List ℕ} {at₀ at : ℕ} → Ate p keep 
 unfolding skip
 skipped a = a .place
 
--- the law as `search` takes it from what a need knows: the test's answer is a flag of the code
+-- the law as `search` takes it from what a need knows: `decode` was called before the end, and the test's answer is a flag of the code
 module _ {S : Type 0} {p : ℕ → Bool} {g : S → ℕ → S} {s : List ℕ} where
-  pub go-on : {at₀ at at′ code wide : ℕ} {x₀ x x′ : S} {b : Bool} → Eating p g s at₀ x₀ at x → Point s at code wide → b ≡ p code → not b ≡ false →
+  pub go-on : {at₀ at at′ code wide : ℕ} {x₀ x x′ : S} {b : Bool} → Eating p g s at₀ x₀ at x → Decoded s at code wide → at < length s → b ≡ p code → not b ≡ false →
       at′ ≡ at + wide → x′ ≡ g x code → Eating p g s at₀ x₀ at′ x′
-  go-on {b = b} e c f t u v = rw (u, v) (eating-more p g s e c (sym f ∙ not-false b t))
+  go-on {b = b} e d l f t u v = rw (u, v) (eating-more p g s e (decoded-point d l) (sym f ∙ not-false b t))
 
-  pub halt : {at₀ at code wide : ℕ} {x₀ x : S} {b : Bool} → Eating p g s at₀ x₀ at x → Point s at code wide → b ≡ p code → not b ≡ true → Ate p g s at₀ x₀ at x
-  halt {b = b} e c f t = eating-stop p g s e c (sym f ∙ not-true b t)
+  pub halt : {at₀ at code wide : ℕ} {x₀ x : S} {b : Bool} → Eating p g s at₀ x₀ at x → Decoded s at code wide → at < length s → b ≡ p code → not b ≡ true → Ate p g s at₀ x₀ at x
+  halt {b = b} e d l f t = eating-stop p g s e (decoded-point d l) (sym f ∙ not-true b t)
 
   pub none-yet : {at : ℕ} {x : S} → at ≤ length s → Eating p g s at x at x
   none-yet {at} {x} h = eating-none p g s at x h
@@ -127,8 +127,8 @@ module _ {S : Type 0} {p : ℕ → Bool} {g : S → ℕ → S} {s : List ℕ} wh
 
 -- the same for a loop with no state
 module _ {p : ℕ → Bool} {s : List ℕ} where
-  pub halt-skip : {at₀ at code wide : ℕ} {b : Bool} → Eating p keep s at₀ tt at tt → Point s at code wide → b ≡ p code → not b ≡ true → Place s at₀ at (skip p (left s at₀))
-  halt-skip e c f t = skipped (halt e c f t)
+  pub halt-skip : {at₀ at code wide : ℕ} {b : Bool} → Eating p keep s at₀ tt at tt → Decoded s at code wide → at < length s → b ≡ p code → not b ≡ true → Place s at₀ at (skip p (left s at₀))
+  halt-skip e d l f t = skipped (halt e d l f t)
 
   pub end-skip : {at₀ at : ℕ} → Eating p keep s at₀ tt at tt → length s ≤ at → Place s at₀ at (skip p (left s at₀))
   end-skip e h = skipped (eating-end p keep s e h)

@@ -1,0 +1,29 @@
+-- On the constant tables the lent letters are those of Unicode.
+-- Assumes nothing.
+use mathlib.Core.Path.{_≡_, subst}
+use mathlib.Core.List.{List}
+use mathlib.Core.Bool.{_||_}
+use Prim.Native.Nat.{ℕ}
+use lib.Dec.{eqb}
+use Rattle.unicode.specs.Ranges.{flat}
+use Rattle.unicode.specs.Ucd.{xidStart, xidContinue, emoji}
+use Rattle.unicode.specs.Properties.{asciiStart, asciiContinue, asciiEmoji, testedIn}
+use Rattle.unicode.proofs.Rising.{start-is, continue-is, emoji-is}
+use Rattle.lexer.specs.Cut.{Letters}
+use Rattle.lexer.specs.Unicode.{unicode, lent}
+use Rattle.lexer.specs.Steps.{Stored}
+
+spelled : _≡_ {A = Letters} (record {
+  start = λ c. eqb c 0x5F || testedIn asciiStart (flat xidStart) c;
+  more = λ c. testedIn asciiContinue (flat xidContinue) c;
+  emoji = λ c. testedIn asciiEmoji (flat emoji) c;
+}) unicode
+unfolding unicode
+spelled = simp (start-is, continue-is, emoji-is)
+
+pub lent-is : lent (flat xidStart) (flat xidContinue) (flat emoji) ≡ unicode
+lent-is = spelled
+
+-- so what is stored over the constants is what is stored over Unicode's letters
+pub lent-stored : {profile number also : ℕ} {s list list′ : List ℕ} → Stored (lent (flat xidStart) (flat xidContinue) (flat emoji)) profile s list number also list′ → Stored unicode profile s list number also list′
+lent-stored {profile} {number} {also} {s} {list} {list′} r = subst (λ (u : Letters). Stored u profile s list number also list′) lent-is r

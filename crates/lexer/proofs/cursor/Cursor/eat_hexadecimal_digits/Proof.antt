@@ -1,0 +1,59 @@
+use Prim.Native.Nat.{_-_}
+use native.Mathlib.Omega.{arith}
+use mathlib.Core.Bool.{false}
+use lib.ListN.{length}
+use Rattle.unicode.specs.Text.{Eating}
+use Rattle.unicode.proofs.Text.{eating, decoded-fits, decoded-some}
+use Rattle.lexer.specs.Cut.{orUnderscore, met, isHexDigit}
+use borrow.Author.Needs.{needs}
+use Rattle.lexer.proofs.cursor.Cursor.eat_hexadecimal_digits.Statement.{statement}
+use Rattle.lexer.proofs.cursor.Cursor.eat_hexadecimal_digits.Tie as tie
+
+abbrev Inv-loop : tie.InvT-loop
+Inv-loop text at₀ any₀ at any = Eating (orUnderscore isHexDigit) (met isHexDigit) text at₀ false at any
+
+abbrev μ-loop : tie.MeasureT-loop
+μ-loop text at₀ any₀ at any = length text - at
+
+loop-holds : tie.Need-loop-holds Inv-loop μ-loop
+loop-holds c = search (needs, eating)
+
+decode-requires : tie.Need-decode-requires Inv-loop μ-loop
+decode-requires c κs = search (needs, eating)
+
+is-hex-or-underscore-requires : tie.Need-is-hex-or-underscore-requires Inv-loop μ-loop
+is-hex-or-underscore-requires c κs = search (needs, eating)
+
+returns : tie.Need-returns Inv-loop μ-loop
+returns c = search (needs, eating)
+
+met-hex-requires : tie.Need-met-hex-requires Inv-loop μ-loop
+met-hex-requires c κs = search (needs, eating)
+
+add-at : tie.Need-add-at Inv-loop μ-loop
+add-at c = omega (arith, decoded-fits)
+
+loop-less : tie.Need-loop-less Inv-loop μ-loop
+loop-less c = omega (arith, decoded-some)
+
+loop-again : tie.Need-loop-again Inv-loop μ-loop
+loop-again c = search (needs, eating)
+
+returns-2 : tie.Need-returns-2 Inv-loop μ-loop
+returns-2 c = search (needs, eating)
+
+pub eat-hexadecimal-digits-spec : {M : Type 1} → statement M
+eat-hexadecimal-digits-spec =
+    tie.close
+    (tie.spec
+    Inv-loop
+    μ-loop
+    loop-holds
+    decode-requires
+    is-hex-or-underscore-requires
+    returns
+    met-hex-requires
+    add-at
+    loop-less
+    loop-again
+    returns-2)

@@ -1,0 +1,54 @@
+use Prim.Native.Nat.{_-_}
+use native.Mathlib.Omega.{arith}
+use lib.ListN.{length}
+use Rattle.unicode.specs.Text.{Eating, keep}
+use Rattle.unicode.proofs.Text.{eating, decoded-fits, decoded-some}
+use Rattle.lexer.specs.Unicode.{moreIn}
+use borrow.Author.Needs.{needs}
+use Rattle.lexer.proofs.cursor.Cursor.eat_id_continue.Statement.{statement}
+use Rattle.lexer.proofs.cursor.Cursor.eat_id_continue.Tie as tie
+
+abbrev Inv-loop : tie.InvT-loop
+Inv-loop text more at₀ at = Eating (moreIn more) keep text at₀ tt at tt
+
+abbrev μ-loop : tie.MeasureT-loop
+μ-loop text more at₀ at = length text - at
+
+loop-holds : tie.Need-loop-holds Inv-loop μ-loop
+loop-holds c = search (needs, eating)
+
+decode-requires : tie.Need-decode-requires Inv-loop μ-loop
+decode-requires c κs = search (needs, eating)
+
+is-xid-continue-in-requires : tie.Need-is-xid-continue-in-requires Inv-loop μ-loop
+is-xid-continue-in-requires c κs = search (needs, eating)
+
+returns : tie.Need-returns Inv-loop μ-loop
+returns c = search (needs, eating)
+
+add-at : tie.Need-add-at Inv-loop μ-loop
+add-at c = omega (arith, decoded-fits)
+
+loop-less : tie.Need-loop-less Inv-loop μ-loop
+loop-less c = omega (arith, decoded-some)
+
+loop-again : tie.Need-loop-again Inv-loop μ-loop
+loop-again c = search (needs, eating)
+
+returns-2 : tie.Need-returns-2 Inv-loop μ-loop
+returns-2 c = search (needs, eating)
+
+pub eat-id-continue-spec : {M : Type 1} → statement M
+eat-id-continue-spec =
+    tie.close
+    (tie.spec
+    Inv-loop
+    μ-loop
+    loop-holds
+    decode-requires
+    is-xid-continue-in-requires
+    returns
+    add-at
+    loop-less
+    loop-again
+    returns-2)

@@ -1,0 +1,35 @@
+use Rattle.unicode.specs.Ucd.{xidStart, xidContinue, emoji}
+use Rattle.lexer.proofs.Unicode.{lent-stored}
+use borrow.Author.Needs.{needs}
+use Rattle.lexer.proofs.list.lend.Statement.{statement}
+use Rattle.lexer.proofs.list.lend.Tie as tie
+
+slice-aggregate-store : tie.Need-slice-aggregate-store
+slice-aggregate-store c = search needs
+
+slice-aggregate-store-2 : tie.Need-slice-aggregate-store-2
+slice-aggregate-store-2 c = search needs
+
+slice-aggregate-store-3 : tie.Need-slice-aggregate-store-3
+slice-aggregate-store-3 c = search needs
+
+store-requires : tie.Need-store-requires
+store-requires c κs = search needs
+
+same-length : tie.Need-same-length
+same-length c = search needs
+
+returns : tie.Need-returns
+unfolding xidStart xidContinue emoji
+returns c = lent-stored (c .before .before .store .ensures)
+
+pub lend-spec : {M : Type 1} → statement M
+lend-spec =
+    tie.close
+    (tie.spec
+    slice-aggregate-store
+    slice-aggregate-store-2
+    slice-aggregate-store-3
+    store-requires
+    same-length
+    returns)

@@ -1,0 +1,93 @@
+-- What the cutter's own functions answer, by the places that they reach.
+-- Assumes nothing.
+use Prim.Native.Nat.{ℕ, _+_, _/_, _≤_, _<_, min}
+use mathlib.Core.Path.{_≡_}
+use mathlib.Core.Bool.{Bool, false, cond, _&&_, _||_}
+use mathlib.Core.List.{List, _∷_, _++_}
+use lib.Dec.{eqb}
+use lib.ListN.{length, drop}
+use lib.Seq.{sets}
+use Rattle.unicode.specs.Utf8.{chars}
+use Rattle.text.specs.Answer.{Answered, done, checkRoom}
+use Rattle.unicode.specs.Text.{Place, left}
+use Rattle.lexer.specs.Chars.{isWhitespace}
+use Rattle.lexer.specs.Kinds.{eof}
+use Rattle.lexer.specs.Cut.{Letters, agree, isBit, isDigit, quoted, quoteKind, token, tokens, flat}
+
+-- a number and a place, by a definition that gives a number and what is left
+pub record Parted (f : List ℕ → ℕ × List ℕ) (s : List ℕ) (at kind end : ℕ) : Type 0 where
+  pub what : kind ≡ f (left s at) .0
+  pub place : Place s at end (f (left s at) .1)
+
+-- a flag and a place
+pub record Flagged (f : List ℕ → Bool × List ℕ) (s : List ℕ) (at : ℕ) (flag : Bool) (end : ℕ) : Type 0 where
+  pub what : flag ≡ f (left s at) .0
+  pub place : Place s at end (f (left s at) .1)
+
+-- how much of the text agrees with a word, and the place behind that
+pub record Agreed (word s : List ℕ) (at count end : ℕ) : Type 0 where
+  pub many : count ≡ agree word (left s at)
+  pub place : Place s at end (drop count (left s at))
+
+-- a quoted text: whether it is closed, its kind, and the place behind it
+pub record Quoted (s : List ℕ) (at : ℕ) (closed : Bool) (kind end : ℕ) : Type 0 where
+  pub flag : closed ≡ quoted (left s at) .closed
+  pub what : kind ≡ quoteKind (quoted (left s at))
+  pub place : Place s at end (quoted (left s at) .rest)
+
+-- one character more of a quoted text: whether all are 0, 1, _ or LF, how many LF there are, none, one or many, whether two underscores
+-- stand side by side, and the last character
+pub record Added (c : ℕ) (plain : Bool) (lines : ℕ) (twice : Bool) (prev : ℕ) (plain′ : Bool) (lines′ : ℕ) (twice′ : Bool) (prev′ : ℕ) : Type 0 where
+  pub plain-is : plain′ ≡ (plain && (eqb c 0x0A || isBit c))
+  pub lines-is : lines′ ≡ min 2 (lines + cond (eqb c 0x0A) 1 0)
+  pub twice-is : twice′ ≡ (twice || (eqb prev 0x5F && eqb c 0x5F))
+  pub prev-is : prev′ ≡ c
+
+-- whether a quoted text is a bit string, by what was seen of it
+abbrev pub bitsBy : Bool → Bool → ℕ → ℕ → Bool
+bitsBy closed plain lines prev =
+    plain && cond closed (eqb lines 0) (eqb lines 0 || (eqb lines 1 && eqb prev 0x0A))
+
+-- the character c at a place and the place behind it
+pub record Stands (s : List ℕ) (at c next : ℕ) : Type 0 where
+  pub order : at < next
+  pub within : next ≤ length s
+  pub view : left s at ≡ c ∷ left s next
+
+-- c begins no comment, no white space and no identifier
+pub record Later (u : Letters) (c : ℕ) : Type 0 where
+  pub no-slash : (c ≡ 0x2F → ⊥)
+  pub no-space : isWhitespace c ≡ false
+  pub no-name : u .start c ≡ false
+
+-- nor a number, a pragma, an annotation, a hardware identifier or a quoted text
+pub record Single (u : Letters) (c : ℕ) : Type 0 where
+  pub later : Later u c
+  pub no-digit : isDigit c ≡ false
+  pub no-pound : (c ≡ 0x23 → ⊥)
+  pub no-at : (c ≡ 0x40 → ⊥)
+  pub no-dollar : (c ≡ 0x24 → ⊥)
+  pub no-quote : (c ≡ 0x22 → ⊥)
+
+-- ---- a token at a place before the end: its kind, the place where its suffix starts (its own, where it has none), and its end
+pub record Cuts (u : Letters) (profile : ℕ) (s : List ℕ) (at kind mark end : ℕ) : Type 0 where
+  pub what : kind ≡ token u profile (left s at) .kind
+  pub start : Place s at mark (token u profile (left s at) .mark)
+  pub place : Place s at end (token u profile (left s at) .rest)
+  pub some : at < end
+
+-- what `advance_token` answers: at or past the end there is no token
+pub record Advanced (u : Letters) (profile : ℕ) (s : List ℕ) (at kind mark end : ℕ) : Type 0 where
+  pub before-end : (at < length s → Cuts u profile s at kind mark end)
+  pub at-end : (length s ≤ at → (kind ≡ eof) × (mark ≡ at) × (end ≡ at))
+
+-- ---- one walk over the tokens, which counts them, and stores them where it is told to
+pub record Walked (u : Letters) (profile : ℕ) (s : List ℕ) (write : Bool) (list : List ℕ) (n : ℕ) (list′ : List ℕ) : Type 0 where
+  pub few : n ≤ length s
+  pub count : n ≡ length (tokens u profile (chars s))
+  pub words : list′ ≡ cond write (sets list 0 (flat (tokens u profile (chars s)))) list
+
+-- the answer for a text that passed the checks, and the list
+pub record Stored (u : Letters) (profile : ℕ) (s list : List ℕ) (number also : ℕ) (list′ : List ℕ) : Type 0 where
+  pub answer : Answered (checkRoom (length list / 3) (length (tokens u profile (chars s)))) number also
+  pub words : list′ ≡ cond (eqb number done) (flat (tokens u profile (chars s)) ++ drop (length (flat (tokens u profile (chars s)))) list) list

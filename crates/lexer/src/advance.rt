@@ -1,0 +1,273 @@
+// The token at a place: decided by its first character, in the order of the tests.
+ghost use mathlib.Core.Path.{_≡_};
+ghost use mathlib.Core.Bool.{true};
+ghost use Prim.Native.Nat.{_<_};
+ghost use lib.ListN.{length};
+ghost use Rattle.lexer.specs.Cut.{isDigit};
+ghost use Rattle.lexer.specs.Kinds.{marks, markIn};
+ghost use Rattle.lexer.specs.Unicode.{lent};
+ghost use Rattle.lexer.specs.Steps.{Stands, Later, Single, Cuts, Advanced};
+use crate::comments::slash;
+use crate::cursor::Cursor;
+use crate::cursor::is_digit;
+use crate::cursor::is_id_start_in;
+use crate::cursor::is_wide_emoji;
+use crate::is_whitespace;
+use crate::kinds;
+use crate::numbers::eat_identifier;
+use crate::numbers::eat_literal_suffix;
+use crate::numbers::number;
+use crate::quotes::double_quoted_string;
+use crate::words::annotation;
+use crate::words::hardware_ident;
+use crate::words::ident_or_unknown_prefix;
+use crate::words::pound;
+use unicode::utf8::decode;
+
+// A token: its kind, the place where its suffix starts (its own start, where it has none), and its end.
+pub struct Piece {
+    pub kind: u32,
+    pub mark: usize,
+    pub end: usize,
+}
+
+// The kind of a single mark, or 0.
+fn mark_of(c: u32) -> u32
+    ensures { λ r. ⌜ r ≡ markIn marks c 0 ⌝ }
+{
+    match c {
+        0x3B => 10,
+        0x2C => 11,
+        0x2E => 12,
+        0x28 => 13,
+        0x29 => 14,
+        0x7B => 15,
+        0x7D => 16,
+        0x5B => 17,
+        0x5D => 18,
+        0x7E => 21,
+        0x3F => 22,
+        0x3A => 23,
+        0x3D => 25,
+        0x21 => 26,
+        0x3C => 27,
+        0x3E => 28,
+        0x2D => 29,
+        0x26 => 30,
+        0x7C => 31,
+        0x2B => 32,
+        0x2A => 33,
+        0x5E => 35,
+        0x25 => 36,
+        _ => 0,
+    }
+}
+
+// A single mark, an identifier that begins with an emoji, or an unknown character.
+fn single(
+    text: &[u8],
+    at: usize,
+    c: u32,
+    next: Cursor,
+    profile: u32,
+    start: &[u32],
+    more: &[u32],
+    emoji: &[u32],
+) -> Piece
+    requires { ⌜ (Stands (now text) at c (next .at)) × (Single (lent (now start) (now more) (now emoji)) c) ⌝ }
+    ensures { λ r. ⌜ Cuts (lent (now (start .entry)) (now (more .entry)) (now (emoji .entry))) profile (now (text .entry)) at (r .kind) (r .mark) (r .end) ⌝ }
+{
+    let k = mark_of(c);
+    if k != 0 {
+        return Piece {
+            kind: k,
+            mark: at,
+            end: next.at,
+        };
+    }
+    if is_wide_emoji(start, more, emoji, c) {
+        let fake = next.eat_fake(text, start, more, emoji);
+        return Piece {
+            kind: kinds::INVALID_IDENT,
+            mark: at,
+            end: fake.at,
+        };
+    }
+    Piece {
+        kind: kinds::UNKNOWN,
+        mark: at,
+        end: next.at,
+    }
+}
+
+// A quoted text, behind its quote.
+fn string(
+    text: &[u8],
+    at: usize,
+    c: u32,
+    next: Cursor,
+    profile: u32,
+    start: &[u32],
+    more: &[u32],
+    emoji: &[u32],
+) -> Piece
+    requires { ⌜ (Stands (now text) at c (next .at)) × (Later (lent (now start) (now more) (now emoji)) c) × (c ≡ 0x22) ⌝ }
+    ensures { λ r. ⌜ Cuts (lent (now (start .entry)) (now (more .entry)) (now (emoji .entry))) profile (now (text .entry)) at (r .kind) (r .mark) (r .end) ⌝ }
+{
+    let q = double_quoted_string(text, next);
+    if q.closed {
+        let end = eat_identifier(text, Cursor { at: q.at }, start, more, emoji);
+        return Piece {
+            kind: q.kind,
+            mark: q.at,
+            end: end.at,
+        };
+    }
+    Piece {
+        kind: q.kind,
+        mark: q.at,
+        end: q.at,
+    }
+}
+
+// A number, behind its first digit.
+fn numeral(
+    text: &[u8],
+    at: usize,
+    c: u32,
+    next: Cursor,
+    profile: u32,
+    start: &[u32],
+    more: &[u32],
+    emoji: &[u32],
+) -> Piece
+    requires { ⌜ (Stands (now text) at c (next .at)) × (Later (lent (now start) (now more) (now emoji)) c) × (isDigit c ≡ true) ⌝ }
+    ensures { λ r. ⌜ Cuts (lent (now (start .entry)) (now (more .entry)) (now (emoji .entry))) profile (now (text .entry)) at (r .kind) (r .mark) (r .end) ⌝ }
+{
+    let n = number(text, next, c);
+    let end = eat_literal_suffix(text, Cursor { at: n.at }, start, more, emoji);
+    Piece {
+        kind: n.kind,
+        mark: n.at,
+        end: end.at,
+    }
+}
+
+// What begins neither a comment, nor white space, nor an identifier.
+fn other(
+    text: &[u8],
+    at: usize,
+    c: u32,
+    next: Cursor,
+    profile: u32,
+    start: &[u32],
+    more: &[u32],
+    emoji: &[u32],
+) -> Piece
+    requires { ⌜ (Stands (now text) at c (next .at)) × (Later (lent (now start) (now more) (now emoji)) c) ⌝ }
+    ensures { λ r. ⌜ Cuts (lent (now (start .entry)) (now (more .entry)) (now (emoji .entry))) profile (now (text .entry)) at (r .kind) (r .mark) (r .end) ⌝ }
+{
+    if is_digit(c) {
+        return numeral(text, at, c, next, profile, start, more, emoji);
+    }
+    match c {
+        0x23 => {
+            let p = pound(text, next);
+            return Piece {
+                kind: p.kind,
+                mark: at,
+                end: p.at,
+            };
+        }
+        0x40 => {
+            let p = annotation(text, next, start, more, emoji);
+            return Piece {
+                kind: p.kind,
+                mark: at,
+                end: p.at,
+            };
+        }
+        0x24 => {
+            let p = hardware_ident(text, next, start, more, emoji);
+            return Piece {
+                kind: p.kind,
+                mark: at,
+                end: p.at,
+            };
+        }
+        0x22 => {
+            return string(text, at, c, next, profile, start, more, emoji);
+        }
+        _ => {
+            return single(text, at, c, next, profile, start, more, emoji);
+        }
+    }
+}
+
+// The token at a place before the end.
+fn advance(
+    text: &[u8],
+    at: usize,
+    profile: u32,
+    start: &[u32],
+    more: &[u32],
+    emoji: &[u32],
+) -> Piece
+    requires { ⌜ at < length (now text) ⌝ }
+    ensures { λ r. ⌜ Cuts (lent (now (start .entry)) (now (more .entry)) (now (emoji .entry))) profile (now (text .entry)) at (r .kind) (r .mark) (r .end) ⌝ }
+{
+    let d = decode(text, at);
+    let c = d.code;
+    let next = Cursor { at: at + d.wide };
+    if c == 0x2F {
+        let p = slash(text, next);
+        return Piece {
+            kind: p.kind,
+            mark: at,
+            end: p.at,
+        };
+    }
+    if is_whitespace(c) {
+        let end = next.eat_whitespace(text);
+        return Piece {
+            kind: kinds::WHITESPACE,
+            mark: at,
+            end: end.at,
+        };
+    }
+    if is_id_start_in(start, c) {
+        let p = ident_or_unknown_prefix(text, Cursor { at }, c, next, profile, start, more, emoji);
+        return Piece {
+            kind: p.kind,
+            mark: at,
+            end: p.at,
+        };
+    }
+    other(text, at, c, next, profile, start, more, emoji)
+}
+
+// The token at any place, over tables of the letters that are lent; at or past the end there is none.
+pub fn advance_token(
+    text: &[u8],
+    at: usize,
+    profile: u32,
+    start: &[u32],
+    more: &[u32],
+    emoji: &[u32],
+) -> Piece
+    ensures { λ r. ⌜ Advanced (lent (now (start .entry)) (now (more .entry)) (now (emoji .entry))) profile (now (text .entry)) at (r .kind) (r .mark) (r .end) ⌝ }
+{
+    if text.len() <= at {
+        return Piece {
+            kind: kinds::EOF,
+            mark: at,
+            end: at,
+        };
+    }
+    let p = advance(text, at, profile, start, more, emoji);
+    Piece {
+        kind: p.kind,
+        mark: p.mark,
+        end: p.end,
+    }
+}

@@ -1,0 +1,103 @@
+// Comments.
+ghost use mathlib.Core.Path.{_≡_};
+ghost use Prim.Native.Nat.{_≤_};
+ghost use lib.ListN.{length};
+ghost use Rattle.lexer.specs.Cut.{opens, closes, block, slash};
+ghost use Rattle.lexer.specs.Steps.{Parted, Flagged};
+use crate::cursor::Cursor;
+use crate::kinds;
+use unicode::utf8::decode;
+
+// A kind, and the place behind the token.
+pub struct Part {
+    pub kind: u32,
+    pub at: usize,
+}
+
+// Whether a block comment is closed, and the place behind it.
+pub struct Block {
+    pub closed: bool,
+    pub at: usize,
+}
+
+fn is_open(c: u32, x: u32) -> bool
+    ensures { λ r. ⌜ r ≡ opens c x ⌝ }
+{
+    if c == 0x2F {
+        return x == 0x2A;
+    }
+    false
+}
+
+fn is_close(c: u32, x: u32) -> bool
+    ensures { λ r. ⌜ r ≡ closes c x ⌝ }
+{
+    if c == 0x2A {
+        return x == 0x2F;
+    }
+    false
+}
+
+// Behind the slash and the asterisk that open a block comment. Block comments nest.
+fn block_comment(text: &[u8], from: Cursor) -> Block
+    requires { ⌜ from .at ≤ length (now text) ⌝ }
+    ensures { λ r. ⌜ Flagged (block 1) (now (text .entry)) (from .at) (r .closed) (r .at) ⌝ }
+{
+    let mut at = from.at;
+    let mut depth: usize = 1;
+    loop {
+        if text.len() <= at {
+            break Block { closed: false, at };
+        }
+        let d = decode(text, at);
+        let next = Cursor { at: at + d.wide };
+        let x = next.first(text);
+        let past = next.bump(text);
+        if is_open(d.code, x) {
+            depth = depth + 1;
+            at = past.at;
+        } else {
+            if is_close(d.code, x) {
+                depth = depth - 1;
+                at = past.at;
+                if depth == 0 {
+                    break Block { closed: true, at };
+                }
+            } else {
+                at = next.at;
+            }
+        }
+    }
+}
+
+// Behind a slash: a line comment, a block comment, or the slash alone.
+pub fn slash(text: &[u8], from: Cursor) -> Part
+    requires { ⌜ from .at ≤ length (now text) ⌝ }
+    ensures { λ r. ⌜ Parted slash (now (text .entry)) (from .at) (r .kind) (r .at) ⌝ }
+{
+    let x = from.first(text);
+    if x == 0x2F {
+        let end = from.bump(text).eat_line(text);
+        return Part {
+            kind: kinds::LINE_COMMENT,
+            at: end.at,
+        };
+    }
+    if x == 0x2A {
+        let b = block_comment(text, from.bump(text));
+        if b.closed {
+            return Part {
+                kind: kinds::BLOCK_COMMENT,
+                at: b.at,
+            };
+        }
+        return Part {
+            kind: kinds::UNCLOSED_COMMENT,
+            at: b.at,
+        };
+    }
+    Part {
+        kind: kinds::SLASH,
+        at: from.at,
+    }
+}

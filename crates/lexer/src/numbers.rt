@@ -1,0 +1,194 @@
+// Numbers and their suffixes.
+ghost use mathlib.Core.Path.{_≡_};
+ghost use mathlib.Core.Bool.{_||_};
+ghost use mathlib.Core.List.{tail};
+ghost use Prim.Native.Nat.{_≤_};
+ghost use lib.Dec.{eqb};
+ghost use lib.ListN.{length};
+ghost use Rattle.unicode.specs.Text.{Place, left};
+ghost use Rattle.lexer.specs.Cut.{peek, isE, exponent, exponentOf, point, fraction, based, number, isUnit, identifier, suffix};
+ghost use Rattle.lexer.specs.Unicode.{lent};
+ghost use Rattle.lexer.specs.Steps.{Parted, Flagged};
+use crate::comments::Part;
+use crate::cursor::Cursor;
+use crate::cursor::Digits;
+use crate::cursor::is_digit;
+use crate::cursor::is_id_start_in;
+
+fn is_sign(c: u32) -> bool
+    ensures { λ r. ⌜ r ≡ (eqb c 0x2D || eqb c 0x2B) ⌝ }
+{
+    if c == 0x2D {
+        return true;
+    }
+    c == 0x2B
+}
+
+fn is_e(c: u32) -> bool
+    ensures { λ r. ⌜ r ≡ isE c ⌝ }
+{
+    if c == 0x65 {
+        return true;
+    }
+    c == 0x45
+}
+
+fn eat_float_exponent(text: &[u8], from: Cursor) -> Digits
+    requires { ⌜ from .at ≤ length (now text) ⌝ }
+    ensures { λ r. ⌜ Flagged exponent (now (text .entry)) (from .at) (r .any) (r .at) ⌝ }
+{
+    if is_sign(from.first(text)) {
+        return from.bump(text).eat_decimal_digits(text);
+    }
+    from.eat_decimal_digits(text)
+}
+
+// A Float, behind its e.
+fn exponent_of(text: &[u8], from: Cursor, base: u32) -> Part
+    requires { ⌜ (from .at ≤ length (now text)) × (base ≤ 3) ⌝ }
+    ensures { λ r. ⌜ Parted (exponentOf base) (now (text .entry)) (from .at) (r .kind) (r .at) ⌝ }
+{
+    let e = eat_float_exponent(text, from);
+    if e.any {
+        return Part {
+            kind: 48 + 2 * base,
+            at: e.at,
+        };
+    }
+    Part {
+        kind: 49 + 2 * base,
+        at: e.at,
+    }
+}
+
+// A Float, behind its point.
+fn point(text: &[u8], from: Cursor, base: u32) -> Part
+    requires { ⌜ (from .at ≤ length (now text)) × (base ≤ 3) ⌝ }
+    ensures { λ r. ⌜ Parted (point base) (now (text .entry)) (from .at) (r .kind) (r .at) ⌝ }
+{
+    if !is_digit(from.first(text)) {
+        return Part {
+            kind: 48 + 2 * base,
+            at: from.at,
+        };
+    }
+    let d = from.eat_decimal_digits(text);
+    let end = Cursor { at: d.at };
+    if is_e(end.first(text)) {
+        return exponent_of(text, end.bump(text), base);
+    }
+    Part {
+        kind: 48 + 2 * base,
+        at: d.at,
+    }
+}
+
+// Behind the digits before a point.
+fn fraction(text: &[u8], from: Cursor, base: u32) -> Part
+    requires { ⌜ (from .at ≤ length (now text)) × (base ≤ 3) ⌝ }
+    ensures { λ r. ⌜ Parted (fraction base) (now (text .entry)) (from .at) (r .kind) (r .at) ⌝ }
+{
+    let x = from.first(text);
+    if x == 0x2E {
+        return point(text, from.bump(text), base);
+    }
+    if is_e(x) {
+        return exponent_of(text, from.bump(text), base);
+    }
+    Part {
+        kind: 40 + 2 * base,
+        at: from.at,
+    }
+}
+
+// Behind 0b, 0o or 0x and what digits there are.
+fn based(text: &[u8], d: Digits, base: u32) -> Part
+    requires { ⌜ (d .at ≤ length (now text)) × (base ≤ 3) ⌝ }
+    ensures { λ r. ⌜ Parted (based base (d .any)) (now (text .entry)) (d .at) (r .kind) (r .at) ⌝ }
+{
+    if d.any {
+        return fraction(text, Cursor { at: d.at }, base);
+    }
+    Part {
+        kind: 41 + 2 * base,
+        at: d.at,
+    }
+}
+
+// Behind a first digit.
+pub fn number(text: &[u8], from: Cursor, first_digit: u32) -> Part
+    requires { ⌜ from .at ≤ length (now text) ⌝ }
+    ensures { λ r. ⌜ Parted (number «first_digit») (now (text .entry)) (from .at) (r .kind) (r .at) ⌝ }
+{
+    if first_digit == 0x30 {
+        let x = from.first(text);
+        if x == 0x62 {
+            return based(text, from.bump(text).eat_decimal_digits(text), 0);
+        }
+        if x == 0x6F {
+            return based(text, from.bump(text).eat_decimal_digits(text), 1);
+        }
+        if x == 0x78 {
+            return based(text, from.bump(text).eat_hexadecimal_digits(text), 3);
+        }
+    }
+    let d = from.eat_decimal_digits(text);
+    fraction(text, Cursor { at: d.at }, 2)
+}
+
+fn is_unit(x: u32, y: u32) -> bool
+    ensures { λ r. ⌜ r ≡ isUnit x y ⌝ }
+{
+    match x {
+        0x73 => true,
+        0x64 => y == 0x74,
+        0x6E => y == 0x73,
+        0x75 => y == 0x73,
+        0x6D => y == 0x73,
+        0xB5 => y == 0x73,
+        0x69 => y == 0x6D,
+        _ => false,
+    }
+}
+
+fn has_timing_or_imaginary_suffix(text: &[u8], from: Cursor) -> bool
+    requires { ⌜ from .at ≤ length (now text) ⌝ }
+    ensures { λ r. ⌜ r ≡ isUnit (peek (left (now (text .entry)) (from .at))) (peek (tail (left (now (text .entry)) (from .at)))) ⌝ }
+{
+    let x = from.first(text);
+    let y = from.bump(text).first(text);
+    is_unit(x, y)
+}
+
+pub fn eat_identifier(
+    text: &[u8],
+    from: Cursor,
+    start: &[u32],
+    more: &[u32],
+    emoji: &[u32],
+) -> Cursor
+    requires { ⌜ from .at ≤ length (now text) ⌝ }
+    ensures { λ r. ⌜ Place (now (text .entry)) (from .at) (r .at) (identifier (lent (now (start .entry)) (now (more .entry)) (now (emoji .entry))) (left (now (text .entry)) (from .at))) ⌝ }
+{
+    if !is_id_start_in(start, from.first(text)) {
+        return from;
+    }
+    from.bump(text).eat_id_continue(text, more)
+}
+
+// A unit is a token of its own.
+pub fn eat_literal_suffix(
+    text: &[u8],
+    from: Cursor,
+    start: &[u32],
+    more: &[u32],
+    emoji: &[u32],
+) -> Cursor
+    requires { ⌜ from .at ≤ length (now text) ⌝ }
+    ensures { λ r. ⌜ Place (now (text .entry)) (from .at) (r .at) (suffix (lent (now (start .entry)) (now (more .entry)) (now (emoji .entry))) (left (now (text .entry)) (from .at))) ⌝ }
+{
+    if has_timing_or_imaginary_suffix(text, from) {
+        return from;
+    }
+    eat_identifier(text, from, start, more, emoji)
+}

@@ -1,0 +1,132 @@
+#!/usr/bin/env python3
+"""Compares the program `answers` with the Rust crate, task tok, on generated texts, under both profiles.
+
+    tools/compare.py RELEASE DEBUG ANSWERS [--short N] [--random N] [--seed S] [--programs DIR]
+
+RELEASE and DEBUG are the program that answers cases with the crate, built without and with debug assertions; ANSWERS is
+target/bin/answers. Every text of at most N pieces of the alphabet is compared (--short), then random texts of several sorts,
+and damaged ones. Exit status 1 if an answer differs; the first few that do are printed.
+"""
+import argparse
+import itertools
+import pathlib
+import random
+import subprocess
+import sys
+
+# Pieces at which a rule turns.
+ALPHABET = [s.encode() for s in "/*\n\"01_.esudt#pragm@$\\é"] + [s.encode() for s in ("\U0001F600", "\u200D", "\u00B5", "\u03BC", "\u0085", "\0")]
+
+# Pieces of which longer texts are made: whole words beside single marks.
+WORDS = ALPHABET + [s.encode() for s in (
+    " ", "  ", "\t", "\r\n", "\r", "//", "/*", "*/", "///", "/**/", "'", "''", "\"0", "01_1", "\"01\"", "\"0_1\"", "\"0__1\"",
+    "\\\"", "\\\\", "0x", "0X", "0b", "0o", "0B", "0O", "0xfe", "0b102", "0o78", "1.", "1.5", "1e", "1e5", "1e+", "1E-3", "1.e5",
+    "..", "1..2", ".5", "ns", "us", "ms", "s", "dt", "µs", "μs", "im", "sec", "pragma", "#pragma", "#pragm", "#pragmatic",
+    "pragma/*", "#dim", "@x", "@ y", "$0", "$12", "$_", "$a", "OPENQASM", "qubit", "gate", "θ", "ÿ", "x1", "_a", "a\u0301",
+    "\u2028", "\u2029", "\u200E", "\u00A0", "\u3000", "☕", "👨\u200D👩", "#️⃣", "1️⃣", "\uFEFF", "\U0010FFFF", "\U000E0001", "ª", "·",
+    "℘", "ﬁ", "中", ";", ",", "(", ")", "{", "}", "[", "]", "~", "?", ":", "=", "!", "<", ">", "-", "&", "|", "+", "^", "%", "`", "\x7f", "\x01",
+)]
+
+
+def damaged(rng, text):
+    """The text with a byte changed, left out, doubled or put in: often no UTF-8 any more."""
+    b = bytearray(text)
+    for _ in range(rng.randint(1, 3)):
+        i = rng.randrange(len(b) + 1)
+        how = rng.randrange(4)
+        if how == 0 or i == len(b):
+            b.insert(i, rng.randrange(256))
+        elif how == 1:
+            b[i] = rng.randrange(256)
+        elif how == 2:
+            del b[i]
+        else:
+            b[i:i] = b[max(0, i - 4):i]
+    return bytes(b)
+
+
+def scalar(rng):
+    while True:
+        c = rng.choice((rng.randrange(0x80), rng.randrange(0x800), rng.randrange(0x10000), rng.randrange(0x110000)))
+        if not 0xD800 <= c <= 0xDFFF:
+            return chr(c).encode()
+
+
+def texts(rng, count, programs):
+    for _ in range(count):
+        sort = rng.randrange(10)
+        if sort < 5:
+            yield b"".join(rng.choice(WORDS) for _ in range(rng.randint(1, 12)))
+        elif sort == 5:
+            yield b"".join(rng.choice(WORDS) for _ in range(rng.randint(13, 200)))
+        elif sort == 6:
+            yield b"".join(scalar(rng) for _ in range(rng.randint(1, 20)))
+        elif sort == 7:
+            yield damaged(rng, b"".join(rng.choice(WORDS) for _ in range(rng.randint(1, 12))))
+        elif sort == 8 and programs:
+            p = rng.choice(programs)
+            i = rng.randrange(len(p) + 1)
+            yield damaged(rng, p[i:i + rng.randint(1, 300)])
+        else:
+            yield bytes(rng.choice(b"\"01_\n/*#e.x$@ ") for _ in range(rng.randint(1, 16)))
+
+
+def short(length):
+    for n in range(length + 1):
+        for pieces in itertools.product(ALPHABET, repeat=n):
+            yield b"".join(pieces)
+
+
+def answers(program, cases):
+    return subprocess.run([program], input=cases, stdout=subprocess.PIPE, check=True).stdout.split(b"\n")
+
+
+def compare(options, batch):
+    """How many cases were compared, and those that differ."""
+    wrong = []
+    total = 0
+    for profile, oracle in ((0, options.release), (1, options.debug)):
+        cases = b"".join(b"tok %d %s\n" % (profile, t.hex().encode() or b"-") for t in batch)
+        theirs = answers(oracle, cases)
+        ours = answers(options.answers, cases)
+        if len(theirs) != len(ours) or len(ours) != len(batch) + 1:
+            sys.exit("the programs answered %d and %d of %d cases" % (len(theirs) - 1, len(ours) - 1, len(batch)))
+        total += len(batch)
+        wrong += [(a, b) for a, b in zip(theirs, ours) if a != b]
+    return total, wrong
+
+
+def batches(stream, size):
+    while True:
+        batch = list(itertools.islice(stream, size))
+        if not batch:
+            return
+        yield batch
+
+
+def main():
+    parser = argparse.ArgumentParser()
+    parser.add_argument("release")
+    parser.add_argument("debug")
+    parser.add_argument("answers")
+    parser.add_argument("--short", type=int, default=3)
+    parser.add_argument("--random", type=int, default=500000)
+    parser.add_argument("--seed", type=int, default=1)
+    parser.add_argument("--programs")
+    options = parser.parse_args()
+    rng = random.Random(options.seed)
+    programs = [p.read_bytes() for p in sorted(pathlib.Path(options.programs).iterdir())] if options.programs else []
+    total, wrong = 0, []
+    whole = [p for p in programs if len(p) <= 32000]
+    stream = itertools.chain(whole, short(options.short), texts(rng, options.random, programs))
+    for batch in batches(stream, 20000):
+        n, w = compare(options, batch)
+        total += n
+        wrong += w
+    for theirs, ours in wrong[:10]:
+        print("Rust:", theirs.decode()[:300], "\nport:", ours.decode()[:300])
+    print(f"{total} cases compared, {len(wrong)} different")
+    sys.exit(1 if wrong else 0)
+
+
+main()
