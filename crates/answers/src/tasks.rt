@@ -150,6 +150,17 @@ fn tokroom(arguments: &[u8], room: &mut [u8], out: &mut [u8], used: usize) -> us
     words_after(text, profile, &mut list[0..k], out, used)
 }
 
+// ident HEX: whether the text is an identifier, or the refusal.
+fn ident(arguments: &[u8], room: &mut [u8], out: &mut [u8], used: usize) -> usize {
+    let bytes = words::hex(arguments, room);
+    if !bytes.right {
+        return refuse(out, used);
+    }
+    let n = bytes.count;
+    let text = &room[0..n];
+    put_answer(out, used, lexer::is_ident(text))
+}
+
 fn answer(line: &[u8], room: &mut [u8], out: &mut [u8], used: usize) -> usize {
     let task = words::first(line);
     let arguments = words::rest(line);
@@ -164,6 +175,9 @@ fn answer(line: &[u8], room: &mut [u8], out: &mut [u8], used: usize) -> usize {
     }
     if words::same(task, b"tokroom") {
         return tokroom(arguments, room, out, used);
+    }
+    if words::same(task, b"ident") {
+        return ident(arguments, room, out, used);
     }
     put_all(out, used, b"unknown")
 }

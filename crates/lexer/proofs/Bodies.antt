@@ -9,10 +9,11 @@ use mathlib.Core.List.{List, [], _∷_, _++_, append-assoc, append-nil, tail}
 use lib.ListN.{length}
 use lib.Dec.{eqb}
 use borrow.Author.Tests.{eq-eqb, ne-eqb, eqb-true, not-true, not-false}
+use Rattle.lists.specs.All.{all}
 use Rattle.lists.proofs.Bools.{by-test, and-false, and-true, or-false}
 use Rattle.unicode.specs.Text.{Decoded, Place, left}
 use Rattle.unicode.proofs.Text.{decoded-point, left-end}
-use Rattle.lexer.specs.Cut.{peek, Quote, escapes, quoted, isBit, allBits, withoutLf, twice, quoteKind}
+use Rattle.lexer.specs.Cut.{peek, Quote, escapes, quoted, isBit, withoutLf, twice, quoteKind}
 use Rattle.lexer.specs.Kinds.{str, bitStr}
 use Rattle.lexer.specs.Steps.{Quoted, Added, bitsBy}
 
@@ -111,8 +112,8 @@ cap n k l =
 lf-bit : (c : ℕ) → eqb c 0x0A ≡ true → isBit c ≡ false
 lf-bit c e = rw (eqb-true c 0x0A e)
 
-all-bits : (d : List ℕ) → allBits d ≡ (allPlain d && eqb (lfs d) 0)
-unfolding allBits allPlain lfs
+all-bits : (d : List ℕ) → all isBit d ≡ (allPlain d && eqb (lfs d) 0)
+unfolding all allPlain lfs
 all-bits [] = refl
 all-bits (c ∷ t) =
     by-test (eqb c 0x0A)
@@ -140,8 +141,8 @@ lf-first c x t e =
     rw (e, ne-eqb (1 + lfs (x ∷ t)) 0 (λ z. omega arith), ne-eqb (1 + lfs (x ∷ t)) 1 (λ z. omega arith)))
     (λ h. rw (e, h, ne-eqb (1 + lfs (x ∷ t)) 0 (λ z. omega arith)) (and-false (eqb (1 + lfs (x ∷ t)) 1)))
 
-open-bits : (d : List ℕ) → allBits (withoutLf d) ≡ (allPlain d && oneAtEnd d)
-unfolding allBits allPlain lfs last withoutLf
+open-bits : (d : List ℕ) → all isBit (withoutLf d) ≡ (allPlain d && oneAtEnd d)
+unfolding all allPlain lfs last withoutLf
 open-bits [] = refl
 open-bits (c ∷ []) = by-test (eqb c 0x0A) (λ e. rw e) (λ e. rw e (sym (and-true (isBit c && true))))
 open-bits (c ∷ x ∷ t) =

@@ -1,5 +1,6 @@
 pub mod Chars
 pub mod Unicode
+pub mod Ident
 pub mod Flags
 pub mod Steps
 pub mod Blocks
@@ -7,6 +8,6 @@ pub mod Digits
 pub mod Names
 pub mod Bodies
 pub mod Advancing
-pub mod Lengths
+pub mod Shapes
 pub mod Whole
 pub mod Unique

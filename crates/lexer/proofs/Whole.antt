@@ -22,7 +22,7 @@ use Rattle.lexer.specs.Cut.{Letters, Tok, token, piece, tokens, flat}
 use Rattle.lexer.specs.Unicode.{unicode}
 use Rattle.lexer.specs.Steps.{Cuts, Advanced, Walked, Stored}
 use Rattle.lexer.specs.Outcome.{tokensOf, outcome, listed, Listed}
-use Rattle.lexer.proofs.Lengths.{tokens-nil, tokens-cons}
+use Rattle.lexer.proofs.Shapes.{tokens-nil, tokens-cons}
 
 -- three words for each token
 pub length-flat : (l : List Tok) → length (flat l) ≡ 3 * length l

@@ -1,9 +1,10 @@
--- The tests on single characters: white space, and the first and the further characters of an identifier.
+-- The tests on single characters: white space, and the first and the further characters of an identifier; and whether a whole text is one.
 -- Assumes nothing.
-use mathlib.Core.Bool.{Bool, _||_}
+use mathlib.Core.Bool.{Bool, false, _&&_, _||_}
 use mathlib.Core.List.{List, [], _∷_}
 use Prim.Native.Nat.{ℕ}
 use lib.Dec.{eqb}
+use Rattle.lists.specs.All.{all}
 use Rattle.unicode.specs.Ranges.{Range, _to_, inTable}
 use Rattle.unicode.specs.Properties.{isXidStart, isXidContinue}
 
@@ -22,3 +23,11 @@ isIdStart c = eqb c 0x5F || isXidStart c
 -- XID_Continue
 abbrev pub isIdContinue : ℕ → Bool
 isIdContinue c = isXidContinue c
+
+-- a character that begins an identifier, and then only such as go on with it; the empty text is none
+unfoldable pub identBy : (ℕ → Bool) → (ℕ → Bool) → List ℕ → Bool
+identBy start more [] = false
+identBy start more (c ∷ t) = start c && all more t
+
+abbrev pub isIdent : List ℕ → Bool
+isIdent t = identBy isIdStart isIdContinue t

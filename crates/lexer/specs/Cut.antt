@@ -5,6 +5,7 @@ use mathlib.Core.List.{List, [], _∷_, tail}
 use Prim.Native.Nat.{ℕ, suc, _-_}
 use lib.Dec.{eqb, leb}
 use lib.ListN.{drop}
+use Rattle.lists.specs.All.{all}
 use Rattle.lists.specs.Cut.{cut}
 use Rattle.lists.specs.Eat.{eat}
 use Rattle.unicode.specs.Ranges.{_to_, inRange}
@@ -149,10 +150,6 @@ quoted (c ∷ x ∷ t) = step (eqb c 0x22) (escapes c x) c x t (λ u. quoted t) 
 abbrev pub isBit : ℕ → Bool
 isBit c = eqb c 0x30 || (eqb c 0x31 || eqb c 0x5F)
 
-unfoldable pub allBits : List ℕ → Bool
-allBits [] = true
-allBits (c ∷ t) = isBit c && allBits t
-
 -- without one LF at the end
 unfoldable pub withoutLf : List ℕ → List ℕ
 withoutLf [] = []
@@ -168,7 +165,7 @@ twice (c ∷ x ∷ t) = (eqb c 0x5F && eqb x 0x5F) || twice (x ∷ t)
 -- an unclosed one may end in one newline
 unfoldable pub quoteKind : Quote → ℕ
 quoteKind q =
-    cond (allBits (cond (q .closed) (q .body) (withoutLf (q .body))))
+    cond (all isBit (cond (q .closed) (q .body) (withoutLf (q .body))))
     (bitStr (q .closed) (twice (q .body)))
     (str (q .closed))
 

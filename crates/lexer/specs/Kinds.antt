@@ -1,9 +1,9 @@
 -- The numbers of the kinds of tokens, in one place.
 -- Assumes nothing.
-use mathlib.Core.Bool.{Bool, cond}
+use mathlib.Core.Bool.{Bool, cond, not, _&&_}
 use mathlib.Core.List.{List, [], _∷_}
 use Prim.Native.Nat.{ℕ, _+_, _*_}
-use lib.Dec.{eqb}
+use lib.Dec.{eqb, leb}
 
 abbrev pub eof : ℕ
 eof = 0
@@ -91,3 +91,10 @@ str terminated = 56 + cond terminated 1 0
 
 abbrev pub bitStr : Bool → Bool → ℕ
 bitStr terminated twice = 58 + cond terminated 1 0 + cond twice 2 0
+
+-- ---- the kinds that are listed: 1 to 37 but 20, and for literals 40 to 61 but 45
+abbrev pub isPlain : ℕ → Bool
+isPlain k = leb 1 k && (leb k 37 && not (eqb k 20))
+
+abbrev pub isLiteral : ℕ → Bool
+isLiteral k = leb 40 k && (leb k 61 && not (eqb k 45))

@@ -1,13 +1,14 @@
--- What `tokenize` answers, and what it leaves in the list that it was lent.
+-- What `tokenize` answers, and what it leaves in the list that it was lent; and what `is_ident` answers.
 -- Assumes nothing.
 use Prim.Native.Nat.{ℕ, _/_}
-use mathlib.Core.Path.{_≡_, sym, _∙_}
+use mathlib.Core.Path.{_≡_}
 use mathlib.Core.Bool.{cond}
 use mathlib.Core.List.{List, _++_}
 use lib.Dec.{eqb}
 use lib.ListN.{length, drop}
 use Rattle.unicode.specs.Utf8.{chars}
-use Rattle.text.specs.Answer.{Answered, done, checkCut, checkRoom, _andThen_}
+use Rattle.text.specs.Answer.{Answered, done, checkText, checkCut, checkRoom, _andThen_}
+use Rattle.lexer.specs.Chars.{isIdent}
 use Rattle.lexer.specs.Cut.{Tok, tokens, flat}
 use Rattle.lexer.specs.Unicode.{unicode}
 
@@ -29,7 +30,6 @@ pub record Listed (s : List ℕ) (profile : ℕ) (list : List ℕ) (number also 
   pub answer : Answered (outcome s profile (length list)) number also
   pub words : list′ ≡ listed s profile list
 
--- one outcome: two calls with the same text, profile and list answer the same and leave the same
-pub listed-unique : {s : List ℕ} {profile : ℕ} {list : List ℕ} {n a m b : ℕ} {l k : List ℕ} → Listed s profile list n a l → Listed s profile list m b k → (n ≡ m) × (a ≡ b) × (l ≡ k)
-listed-unique p q =
-    (p .answer .number-is ∙ sym (q .answer .number-is), p .answer .also-is ∙ sym (q .answer .also-is), p .words ∙ sym (q .words))
+-- whether a text is an identifier: 1 for yes, 0 for no
+unfoldable pub identified : List ℕ → ℕ × ℕ
+identified s = checkText s andThen (done, cond (isIdent (chars s)) 1 0)

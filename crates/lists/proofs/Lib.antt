@@ -1,4 +1,5 @@
 pub mod Bools
 pub mod Cut
 pub mod Eat
+pub mod Ends
 pub mod Put

@@ -1,3 +1,5 @@
+pub mod All
 pub mod Cut
 pub mod Eat
+pub mod Ends
 pub mod Put

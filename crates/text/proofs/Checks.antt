@@ -1,6 +1,6 @@
--- The three ways of `checkText`, as `search` takes them from what a need knows, and what a text that passes is.
+-- One outcome of an answer; the three ways of `checkText`, as `search` takes them from what a need knows, and what a text that passes is.
 -- Assumes nothing.
-use mathlib.Core.Path.{_≡_, _∙_}
+use mathlib.Core.Path.{_≡_, sym, _∙_}
 use mathlib.Core.List.{List}
 use Prim.Native.Nat.{ℕ, _≤_, _<_}
 use native.Mathlib.Omega.{arith}
@@ -11,6 +11,10 @@ use Rattle.lists.proofs.Bools.{by-test}
 use Rattle.unicode.specs.Utf8.{validUpTo}
 use Rattle.unicode.proofs.Valid.{valid-within}
 use Rattle.text.specs.Answer.{Answered, done, tooLong, notUtf8, longest, checkText, checkCut, unknownSelector, Accepted}
+
+-- one outcome: two answers of one call are equal
+pub answered-unique : {is : ℕ × ℕ} {n a m b : ℕ} → Answered is n a → Answered is m b → (n ≡ m) × (a ≡ b)
+answered-unique p q = (p .number-is ∙ sym (q .number-is), p .also-is ∙ sym (q .also-is))
 
 module _ (s : List ℕ) {number also : ℕ} where
   pub text-long : longest < length s → number ≡ tooLong → also ≡ 0 → Answered (checkText s) number also

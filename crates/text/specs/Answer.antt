@@ -1,6 +1,6 @@
 -- What comes back from every entry: a number, and what is also returned with it; and the checks that each entry that takes text begins with.
 -- Assumes nothing.
-use mathlib.Core.Path.{_≡_, sym, _∙_}
+use mathlib.Core.Path.{_≡_}
 use mathlib.Core.Bool.{Bool, cond}
 use mathlib.Core.List.{List}
 use Prim.Native.Nat.{ℕ, _≤_}
@@ -32,10 +32,6 @@ longest = 4294967295
 pub record Answered (is : ℕ × ℕ) (number also : ℕ) : Type 0 where
   pub number-is : number ≡ is .0
   pub also-is : also ≡ is .1
-
--- one outcome: two answers of one call are equal
-pub answered-unique : {is : ℕ × ℕ} {n a m b : ℕ} → Answered is n a → Answered is m b → (n ≡ m) × (a ≡ b)
-answered-unique p q = (p .number-is ∙ sym (q .number-is), p .also-is ∙ sym (q .also-is))
 
 -- ---- checks go in order: the first that refuses is given, and what follows only where none does
 infixr 20 _andThen_

@@ -2,6 +2,7 @@ pub mod Rows
 pub mod First
 pub mod Encode
 pub mod Text
+pub mod Ascii
 pub mod Valid
 pub mod Reading
 pub mod Search

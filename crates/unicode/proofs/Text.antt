@@ -6,14 +6,15 @@ use native.Mathlib.Decide.{decLt}
 use native.Mathlib.Omega.{arith}
 use mathlib.Core.Path.{_≡_, refl, ap, sym, _∙_}
 use mathlib.Core.Bool.{Bool, true, false, not}
-use mathlib.Core.List.{List, [], _∷_}
+use mathlib.Core.List.{List, [], _∷_, _++_, tail, cons≢nil}
 use lib.ListN.{length, drop, getD, length-drop, drop-of-length-le}
 use lib.Seq.{drop-cons, drop-drop}
 use borrow.Author.Tests.{not-true, not-false}
 use Rattle.lists.specs.Eat.{eat}
+use Rattle.lists.specs.Ends.{Ends}
 use Rattle.lists.proofs.Cut.{cut-nil, cut-cons, by-length}
 use Rattle.lists.proofs.Eat.{eat-nil, eat-more, eat-stop}
-use Rattle.unicode.specs.Utf8.{first, next, chars}
+use Rattle.unicode.specs.Utf8.{first, next, chars, width}
 use Rattle.unicode.specs.Text.{Decoded, bytes, left, Point, Place, Eating, Ate, keep, skip}
 use Rattle.unicode.proofs.First.{Fine, fine}
 
@@ -58,6 +59,10 @@ decoded-end {s} {at} d h =
     let e = drop-of-length-le s {i = at} h in
     (rw e at (d .code-is), rw e at (d .wide-is))
 
+-- one outcome: two answers at one place are equal
+pub decoded-unique : {s : List ℕ} {at c w c′ w′ : ℕ} → Decoded s at c w → Decoded s at c′ w′ → (c ≡ c′) × (w ≡ w′)
+decoded-unique d e = (d .code-is ∙ sym (e .code-is), d .wide-is ∙ sym (e .wide-is))
+
 -- the bytes that the characters take are those of the text
 pub bytes-chars : (s : List ℕ) → bytes (chars s) ≡ length s
 unfolding bytes
@@ -69,10 +74,31 @@ bytes-chars =
     rw (chars-first (a ∷ s) (omega arith))
     (omega (arith, f .some, f .within, f .size, ih (drop w (a ∷ s)) (omega (arith, length-drop w (a ∷ s))), length-drop w (a ∷ s))))
 
+pub bytes-append : (x y : List ℕ) → bytes (x ++ y) ≡ bytes x + bytes y
+unfolding bytes
+bytes-append [] y = omega arith
+bytes-append (c ∷ x) y = omega (arith, bytes-append x y)
+
+-- the bytes of a list, by the front before one of its ends
+pub ends-bytes : {x t : List ℕ} (e : Ends x t) → bytes t ≡ bytes (e .front) + bytes x
+ends-bytes {x} e = ap bytes (e .is) ∙ bytes-append (e .front) x
+
 -- ---- places
 -- at the end nothing is left
 pub left-end : (s : List ℕ) (at : ℕ) → length s ≤ at → left s at ≡ []
 left-end s at h = rw drop-of-length-le chars-nil
+
+-- what stands behind a front of the characters, by the bytes of the front
+pub chars-behind : (f r s : List ℕ) → chars s ≡ f ++ r → chars (drop (bytes f) s) ≡ r
+unfolding bytes
+chars-behind [] r s e = e
+chars-behind (c ∷ f) r [] e = absurd (cons≢nil (sym e ∙ chars-nil))
+chars-behind (c ∷ f) r (a ∷ s) e =
+    let w = first (a ∷ s) .1 in
+    let q = sym (chars-first (a ∷ s) (omega arith)) ∙ e in
+    let h : first (a ∷ s) .0 ≡ c = ap (λ (l : List ℕ). getD l 0 0) q in
+    let z : width c + bytes f ≡ w + bytes f = omega (arith, fine a s .size, ap width h) in
+    ap (λ (n : ℕ). chars (drop n (a ∷ s))) z ∙ ap chars (sym (drop-drop (bytes f) w (a ∷ s))) ∙ chars-behind f r (drop w (a ∷ s)) (ap tail q)
 
 -- the bytes between two places, by what is left at each
 pub between : {s : List ℕ} {low at : ℕ} {l : List ℕ} → low ≤ length s → Place s low at l → bytes (left s low) - bytes l ≡ at - low
@@ -109,6 +135,19 @@ module _ {S : Type 0} (p : ℕ → Bool) (g : S → ℕ → S) (s : List ℕ) wh
 pub skipped : {p : ℕ → Bool} {s : List ℕ} {at₀ at : ℕ} → Ate p keep s at₀ tt at tt → Place s at₀ at (skip p (left s at₀))
 unfolding skip
 skipped a = a .place
+
+-- ---- eating with no state, character by character
+pub skip-nil : (p : ℕ → Bool) → skip p [] ≡ []
+unfolding skip
+skip-nil p = ap (λ (r : Unit {0} × List ℕ). r .1) (eat-nil p keep tt)
+
+pub skip-more : (p : ℕ → Bool) (c : ℕ) (t : List ℕ) → p c ≡ true → skip p (c ∷ t) ≡ skip p t
+unfolding skip
+skip-more p c t h = ap (λ (r : Unit {0} × List ℕ). r .1) (eat-more p keep tt c t h)
+
+pub skip-stop : (p : ℕ → Bool) (c : ℕ) (t : List ℕ) → p c ≡ false → skip p (c ∷ t) ≡ c ∷ t
+unfolding skip
+skip-stop p c t h = ap (λ (r : Unit {0} × List ℕ). r .1) (eat-stop p keep tt c t h)
 
 -- the law as `search` takes it from what a need knows: `decode` was called before the end, and the test's answer is a flag of the code
 module _ {S : Type 0} {p : ℕ → Bool} {g : S → ℕ → S} {s : List ℕ} where

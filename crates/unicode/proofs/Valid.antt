@@ -12,9 +12,10 @@ use lib.ListN.{length, drop, take, getD, length-drop, length-append, take-append
 use lib.Seq.{drop-cons, drop-at, take-length, take-add, length-take-le, take-nil}
 use lib.Dec.{ltb}
 use borrow.Author.Tests.{lt-ltb, le-ltb, ltb-true}
+use Rattle.lists.specs.All.{all}
 use Rattle.lists.proofs.Cut.{by-length}
 use Rattle.lists.proofs.Bools.{by-test, both}
-use Rattle.unicode.specs.Utf8.{first, chars, width, isChar, isScalar, allScalar, encode, encodeAll, goodBytes, validUpTo, WellFormed, Encoded}
+use Rattle.unicode.specs.Utf8.{first, chars, width, isChar, isScalar, encode, encodeAll, goodBytes, validUpTo, WellFormed, Encoded}
 use Rattle.unicode.specs.Text.{bytes, left, Decoded, Point, Passed}
 use Rattle.unicode.proofs.First.{fine}
 use Rattle.unicode.proofs.Encode.{scalar, encode-long, back, forth}
@@ -64,7 +65,7 @@ unfolding goodBytes bytes
 good-within [] = omega arith
 good-within (c ∷ l) = by-test (isChar c) (λ h. rw h (omega (arith, good-within l))) (λ h. rw h (omega arith))
 
-width-some : (c : ℕ) → 1 ≤ width c
+pub width-some : (c : ℕ) → 1 ≤ width c
 unfolding width
 width-some c =
     by-test (ltb c 0x80) (λ h. rw h (omega arith))
@@ -80,24 +81,24 @@ chars-encode c s h =
     chars-first (encode c ++ s) k ∙ rw (back c s h, drop-at (encode c) s (width c) w)
 
 -- a list of scalar values, written and read, is that list
-pub read-back : (cs s : List ℕ) → allScalar cs ≡ true → chars (encodeAll cs ++ s) ≡ cs ++ chars s
-unfolding allScalar encodeAll
+pub read-back : (cs s : List ℕ) → all isScalar cs ≡ true → chars (encodeAll cs ++ s) ≡ cs ++ chars s
+unfolding all encodeAll
 read-back [] s h = refl
 read-back (c ∷ cs) s h =
-    let p = both (isScalar c) (allScalar cs) h in
+    let p = both (isScalar c) (all isScalar cs) h in
     rw append-assoc (chars-encode c (encodeAll cs ++ s) (p .0) ∙ rw (read-back cs s (p .1)))
 
 -- and every byte of it counts
-pub valid-encoded : (cs s : List ℕ) → allScalar cs ≡ true → validUpTo (encodeAll cs ++ s) ≡ length (encodeAll cs) + validUpTo s
-unfolding allScalar encodeAll validUpTo goodBytes
+pub valid-encoded : (cs s : List ℕ) → all isScalar cs ≡ true → validUpTo (encodeAll cs ++ s) ≡ length (encodeAll cs) + validUpTo s
+unfolding all encodeAll validUpTo goodBytes
 valid-encoded [] s h = omega arith
 valid-encoded (c ∷ cs) s h =
-    let p = both (isScalar c) (allScalar cs) h in
+    let p = both (isScalar c) (all isScalar cs) h in
     let l : c < 1114112 = omega (arith, scalar c (p .0) .top) in
     rw (append-assoc, chars-encode c (encodeAll cs ++ s) (p .0), lt-ltb c 1114112 l, length-append (encode c) (encodeAll cs))
     (omega (arith, encode-long c l, valid-encoded cs s (p .1)))
 
-pub encoded-well-formed : (cs : List ℕ) → allScalar cs ≡ true → WellFormed (encodeAll cs)
+pub encoded-well-formed : (cs : List ℕ) → all isScalar cs ≡ true → WellFormed (encodeAll cs)
 encoded-well-formed cs h =
     let e : encodeAll cs ++ [] ≡ encodeAll cs = append-nil (encodeAll cs) in
     rw e at (valid-encoded cs [] h) ∙ omega (arith, valid-nil)
@@ -109,15 +110,15 @@ good (c ∷ t) = cond (isChar c) (c ∷ good t) []
 
 -- they are scalar values, and their encodings are the longest well-formed beginning
 pub record Beginning (s : List ℕ) : Type 0 where
-  pub scalars : allScalar (good (chars s)) ≡ true
+  pub scalars : all isScalar (good (chars s)) ≡ true
   pub written : encodeAll (good (chars s)) ≡ take (validUpTo s) s
 
 begin-none : Beginning []
-unfolding good allScalar encodeAll
+unfolding good all encodeAll
 begin-none = record { scalars = rw chars-nil; written = rw chars-nil (sym (take-nil (validUpTo []))) }
 
 begin-one : (a : ℕ) (s : List ℕ) → ((l : List ℕ) → length l ≤ length s → Beginning l) → Beginning (a ∷ s)
-unfolding good allScalar encodeAll validUpTo goodBytes
+unfolding good all encodeAll validUpTo goodBytes
 begin-one a s ih =
     let x = first (a ∷ s) .0 in
     let w = first (a ∷ s) .1 in

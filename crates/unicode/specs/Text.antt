@@ -1,7 +1,7 @@
 -- Places in a text, by the characters from there to its end.
 -- Assumes nothing.
 use Prim.Native.Nat.{ℕ, _+_, _≤_}
-use mathlib.Core.Path.{_≡_, _∙_, sym}
+use mathlib.Core.Path.{_≡_}
 use mathlib.Core.Bool.{Bool}
 use mathlib.Core.List.{List, [], _∷_}
 use lib.ListN.{length, drop}
@@ -12,10 +12,6 @@ use Rattle.unicode.specs.Utf8.{first, chars, width, validUpTo}
 pub record Decoded (s : List ℕ) (at code wide : ℕ) : Type 0 where
   pub code-is : code ≡ first (drop at s) .0
   pub wide-is : wide ≡ first (drop at s) .1
-
--- one outcome: two answers at one place are equal
-pub decoded-unique : {s : List ℕ} {at c w c′ w′ : ℕ} → Decoded s at c w → Decoded s at c′ w′ → (c ≡ c′) × (w ≡ w′)
-decoded-unique d e = (d .code-is ∙ sym (e .code-is), d .wide-is ∙ sym (e .wide-is))
 
 -- a walk from one place to another over what is well-formed: the longest well-formed beginning is the same from both
 pub record Passed (s : List ℕ) (from at : ℕ) : Type 0 where

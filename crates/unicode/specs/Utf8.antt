@@ -8,6 +8,7 @@ use mathlib.Core.Option.{Option, none, some}
 use Prim.Native.Nat.{ℕ, zero, suc, _+_, _-_, _*_, _/_, _%_}
 use lib.Dec.{leb, ltb}
 use lib.ListN.{length, drop}
+use Rattle.lists.specs.All.{all}
 use Rattle.lists.specs.Cut.{cut}
 use Rattle.unicode.specs.Ranges.{Range, _to_, inRange}
 
@@ -83,10 +84,6 @@ chars = cut next
 unfoldable pub isScalar : ℕ → Bool
 isScalar c = ltb c 0xD800 || (leb 0xE000 c && leb c 0x10FFFF)
 
-unfoldable pub allScalar : List ℕ → Bool
-allScalar [] = true
-allScalar (c ∷ t) = isScalar c && allScalar t
-
 -- how many bytes a character takes; what is no character takes one
 unfoldable pub width : ℕ → ℕ
 width c =
@@ -119,5 +116,5 @@ WellFormed s = validUpTo s ≡ length s
 -- a text is written by a list of scalar values
 pub record Encoded (s : List ℕ) : Type 0 where
   pub of : List ℕ
-  pub scalars : allScalar of ≡ true
+  pub scalars : all isScalar of ≡ true
   pub same : s ≡ encodeAll of

@@ -1,0 +1,78 @@
+-- Wrong programs that the promise of `tokenize` rules out: at one call each, what the program would answer or leave is not allowed.
+-- Assumes nothing.
+use Prim.Native.Nat.{ℕ}
+use native.Mathlib.Omega.{arith}
+use mathlib.Core.Path.{_≡_, refl, ap, sym, _∙_}
+use mathlib.Core.List.{List, [], _∷_}
+use lib.ListN.{length, getD}
+use borrow.Author.Tests.{ne-eqb}
+use Rattle.lists.specs.Cut.{pieces, cut}
+use Rattle.lists.specs.Eat.{eat}
+use Rattle.unicode.specs.Ranges.{inTable}
+use Rattle.unicode.specs.Ucd.{xidStart, xidContinue, emoji}
+use Rattle.unicode.specs.Utf8.{table, behind, begins, joined, readBy, first, next, chars, width, goodBytes, validUpTo}
+use Rattle.unicode.specs.Text.{bytes, skip}
+use Rattle.text.specs.Answer.{checkText, checkCut}
+use Rattle.lexer.specs.Chars.{whitespace}
+use Rattle.lexer.specs.Kinds.{marks, markIn}
+use Rattle.lexer.specs.Cut.{notLf, isDigit, isHexDigit, slash, digits, exponent, exponentOf, point, fraction, based, number, isUnit, quoted, agree, identifier, suffix, advance, piece, tokens, flat}
+use Rattle.lexer.specs.Unicode.{unicode}
+use Rattle.lexer.specs.Outcome.{tokensOf, outcome, listed, Listed}
+
+-- ---- four texts: a semicolon, a comma, two semicolons, and 1.e5; with room for two records
+abbrev semicolon : List ℕ
+semicolon = 0x3B ∷ []
+
+abbrev comma : List ℕ
+comma = 0x2C ∷ []
+
+abbrev semicolons : List ℕ
+semicolons = 0x3B ∷ 0x3B ∷ []
+
+abbrev point-e : List ℕ
+point-e = 0x31 ∷ 0x2E ∷ 0x65 ∷ 0x35 ∷ []
+
+abbrev room : List ℕ
+room = 7 ∷ 7 ∷ 7 ∷ 7 ∷ 7 ∷ 7 ∷ []
+
+-- what the promise leaves of each: number, also, and the list
+abbrev Only : List ℕ → List ℕ → ℕ → ℕ → List ℕ → Type 0
+Only text list number also after = (outcome text 0 (length list) ≡ (number, also)) × (listed text 0 list ≡ after)
+
+leaves :
+    (Only semicolon room 0 1 (10 ∷ 1 ∷ 0 ∷ 7 ∷ 7 ∷ 7 ∷ []))
+    × (Only comma room 0 1 (11 ∷ 1 ∷ 0 ∷ 7 ∷ 7 ∷ 7 ∷ []))
+    × (Only semicolons room 0 2 (10 ∷ 1 ∷ 0 ∷ 10 ∷ 1 ∷ 0 ∷ []))
+    × (Only point-e room 0 1 (52 ∷ 4 ∷ 2 ∷ 7 ∷ 7 ∷ 7 ∷ []))
+unfolding pieces cut eat inTable xidStart xidContinue emoji table behind begins joined readBy first next chars width goodBytes validUpTo bytes skip checkText checkCut whitespace marks markIn unicode tokensOf outcome listed notLf isDigit isHexDigit slash digits exponent exponentOf point fraction based number isUnit quoted agree identifier suffix advance piece tokens flat
+leaves = ((refl, refl), (refl, refl), (refl, refl), (refl, refl))
+
+-- an exponent for 1.e5, so that no suffix is left
+pub rules-out-exponent : {n a : ℕ} → Listed point-e 0 room n a (52 ∷ 4 ∷ 4 ∷ 7 ∷ 7 ∷ 7 ∷ []) → ⊥
+rules-out-exponent p = let e : _≡_ {A = ℕ} 4 2 = ap (λ (x : List ℕ). getD x 2 0) (p .words ∙ leaves .3 .1) in omega arith
+
+-- the same tokens for all texts
+pub rules-out-same-tokens : {n a : ℕ} {l : List ℕ} → Listed semicolon 0 room n a l → Listed comma 0 room n a l → ⊥
+rules-out-same-tokens p q =
+    let e : _≡_ {A = ℕ} 10 11 = ap (λ (x : List ℕ). getD x 0 0) (sym (leaves .0 .1) ∙ sym (p .words) ∙ q .words ∙ leaves .1 .1) in omega arith
+
+-- the first token right, and the rest Unknown
+pub rules-out-rest-unknown : {n a : ℕ} → Listed semicolons 0 room n a (10 ∷ 1 ∷ 0 ∷ 37 ∷ 1 ∷ 0 ∷ []) → ⊥
+rules-out-rest-unknown p = let e : _≡_ {A = ℕ} 37 10 = ap (λ (x : List ℕ). getD x 3 0) (p .words ∙ leaves .2 .1) in omega arith
+
+-- a number of records that is not the list's
+pub rules-out-invented-number : {n : ℕ} {l : List ℕ} → Listed semicolon 0 room n 2 l → ⊥
+rules-out-invented-number p = let e : _≡_ {A = ℕ} 2 1 = p .answer .also-is ∙ ap (λ (x : ℕ × ℕ). x .1) (leaves .0 .0) in omega arith
+
+-- every text refused
+pub rules-out-refusing : {n a : ℕ} {l : List ℕ} → Listed semicolon 0 room n a l → n ≡ 0
+rules-out-refusing p = p .answer .number-is ∙ ap (λ (x : ℕ × ℕ). x .0) (leaves .0 .0)
+
+-- nothing written
+pub rules-out-writing-nothing : {n a : ℕ} → Listed semicolon 0 room n a room → ⊥
+rules-out-writing-nothing p = let e : _≡_ {A = ℕ} 7 10 = ap (λ (x : List ℕ). getD x 0 0) (p .words ∙ leaves .0 .1) in omega arith
+
+-- a refusal that writes, at any text, profile and list: a refused call leaves the list as it was
+pub rules-out-refusal-writes : {s : List ℕ} {profile : ℕ} {list : List ℕ} {n a : ℕ} {l : List ℕ} → Listed s profile list n a l → (n ≡ 0 → ⊥) → l ≡ list
+unfolding listed
+rules-out-refusal-writes {s} {profile} {list} p h = p .words ∙ rw (ne-eqb (outcome s profile (length list) .0) 0 (λ e. h (p .answer .number-is ∙ e)))

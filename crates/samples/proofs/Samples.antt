@@ -1,0 +1,23 @@
+-- The starred samples hold: computed from the definitions.
+-- Assumes nothing.
+use mathlib.Core.Path.{_≡_, refl}
+use Rattle.lists.specs.All.{all}
+use Rattle.lists.specs.Cut.{pieces, cut}
+use Rattle.lists.specs.Eat.{eat}
+use Rattle.unicode.specs.Ranges.{inTable}
+use Rattle.unicode.specs.Ucd.{xidStart, xidContinue, emoji}
+use Rattle.unicode.specs.Utf8.{table, behind, begins, joined, readBy, first, next, chars, width, goodBytes, validUpTo}
+use Rattle.unicode.specs.Text.{bytes, skip}
+use Rattle.text.specs.Answer.{checkText, checkCut}
+use Rattle.lexer.specs.Chars.{whitespace}
+use Rattle.lexer.specs.Kinds.{marks, markIn}
+use Rattle.lexer.specs.Unicode.{unicode}
+use Rattle.lexer.specs.Outcome.{tokensOf, outcome, listed}
+use Rattle.tokens.specs.Tiling.{Each}
+use Rattle.samples.specs.Samples.{Sample, does, samples}
+use Rattle.lexer.specs.Cut.{notLf, isDigit, isHexDigit, block, slash, digits, exponent, exponentOf, point, fraction, based, number, isUnit, quoted, withoutLf, twice, quoteKind, agree, pound, name, word, annotated, hardware, identifier, suffix, advance, piece, tokens, flat}
+
+pub all-samples : Each (λ (x : Sample). does (x .call) ≡ (x .answer, x .after)) samples
+unfolding pieces cut eat inTable xidStart xidContinue emoji table behind begins joined readBy first next chars width goodBytes validUpTo bytes skip checkText checkCut whitespace marks markIn unicode tokensOf outcome listed notLf isDigit isHexDigit block slash digits exponent exponentOf point fraction based number isUnit quoted all withoutLf twice quoteKind agree pound name word annotated hardware identifier suffix advance piece tokens flat samples
+all-samples =
+    (refl, (refl, (refl, (refl, (refl, (refl, (refl, (refl, (refl, (refl, (refl, (refl, (refl, (refl, tt))))))))))))))

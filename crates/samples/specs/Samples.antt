@@ -1,0 +1,59 @@
+-- The starred samples of the scope in one table: a call, what it answers, and what it leaves in the memory that it was lent.
+-- Assumes nothing.
+use Prim.Native.Nat.{ℕ}
+use mathlib.Core.List.{List, [], _∷_}
+use lib.ListN.{length}
+use Rattle.lexer.specs.Outcome.{outcome, listed}
+
+-- a call: a text, a profile and the list that is lent
+pub data Call : Type 0 where
+  tokenize : (text : List ℕ) (profile : ℕ) (list : List ℕ) → Call
+
+-- the number and what is also returned, and the list behind the call
+abbrev pub does : Call → (ℕ × ℕ) × List ℕ
+does (tokenize text profile list) = (outcome text profile (length list), listed text profile list)
+
+pub record Sample : Type 0 where
+  pub call : Call
+  pub answer : ℕ × ℕ
+  pub after : List ℕ
+
+-- a text under profile 0 with room for two records, which is one token
+abbrev one : List ℕ → ℕ → ℕ → ℕ → Sample
+one text kind len suff =
+    record {
+      call = tokenize text 0 (7 ∷ 7 ∷ 7 ∷ 7 ∷ 7 ∷ 7 ∷ []);
+      answer = (0, 1);
+      after = kind ∷ len ∷ suff ∷ 7 ∷ 7 ∷ 7 ∷ [];
+    }
+
+unfoldable pub samples : List Sample
+samples =
+    -- the empty text
+    record { call = tokenize [] 0 (7 ∷ 7 ∷ []); answer = (0, 0); after = 7 ∷ 7 ∷ [] } ∷
+    -- ""
+    one (0x22 ∷ 0x22 ∷ []) 59 2 2 ∷
+    -- "0 newline "
+    one (0x22 ∷ 0x30 ∷ 0x0A ∷ 0x22 ∷ []) 57 4 4 ∷
+    -- "0 newline
+    one (0x22 ∷ 0x30 ∷ 0x0A ∷ []) 58 3 3 ∷
+    -- $_
+    one (0x24 ∷ 0x5F ∷ []) 24 2 0 ∷
+    -- 0b102
+    one (0x30 ∷ 0x62 ∷ 0x31 ∷ 0x30 ∷ 0x32 ∷ []) 40 5 5 ∷
+    -- 1e
+    one (0x31 ∷ 0x65 ∷ []) 53 2 2 ∷
+    -- 1.e5
+    one (0x31 ∷ 0x2E ∷ 0x65 ∷ 0x35 ∷ []) 52 4 2 ∷
+    -- 0B1
+    one (0x30 ∷ 0x42 ∷ 0x31 ∷ []) 44 3 1 ∷
+    -- /*/**/
+    one (0x2F ∷ 0x2A ∷ 0x2F ∷ 0x2A ∷ 0x2A ∷ 0x2F ∷ []) 3 6 0 ∷
+    -- pragma
+    one (0x70 ∷ 0x72 ∷ 0x61 ∷ 0x67 ∷ 0x6D ∷ 0x61 ∷ []) 5 6 0 ∷
+    -- pragma under profile 1
+    record { call = tokenize (0x70 ∷ 0x72 ∷ 0x61 ∷ 0x67 ∷ 0x6D ∷ 0x61 ∷ []) 1 (7 ∷ 7 ∷ 7 ∷ []); answer = (0, 1); after = 8 ∷ 6 ∷ 0 ∷ [] } ∷
+    -- the lone byte FF
+    record { call = tokenize (0xFF ∷ []) 0 (7 ∷ 7 ∷ 7 ∷ []); answer = (3, 0); after = 7 ∷ 7 ∷ 7 ∷ [] } ∷
+    -- ; with room for no record
+    record { call = tokenize (0x3B ∷ []) 0 (7 ∷ 7 ∷ []); answer = (4, 1); after = 7 ∷ 7 ∷ [] } ∷ []

@@ -1,0 +1,1 @@
+// The sample texts of the scope, proved: no code.

@@ -1,0 +1,4 @@
+pub mod Tiling
+pub mod First
+pub mod Agree
+pub mod Profiles

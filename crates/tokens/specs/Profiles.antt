@@ -1,0 +1,36 @@
+-- Where the lists of the two profiles part.
+-- Assumes nothing.
+use Prim.Native.Nat.{ℕ, _-_}
+use mathlib.Core.Path.{_≡_}
+use mathlib.Core.Bool.{Bool, true, false, _&&_, _||_}
+use mathlib.Core.List.{List, [], _∷_, _++_}
+use lib.Dec.{eqb}
+use lib.ListN.{length, take, drop}
+use Rattle.unicode.specs.Text.{skip}
+use Rattle.lexer.specs.Kinds.{ident, invalidIdent, pragma}
+use Rattle.lexer.specs.Cut.{Tok, notLf, agree, pragmaWord}
+use Rattle.tokens.specs.Tiling.{total}
+
+-- a bare pragma: an Ident or InvalidIdent whose bytes begin with `pragma`; s is the text from the token on
+abbrev pub bare : List ℕ → Tok → Bool
+bare s t = (eqb (t .kind) ident || eqb (t .kind) invalidIdent) && eqb (agree pragmaWord (take (t .len) s)) 6
+
+-- one is among the tokens that s begins with
+abbrev pub bareIn : List ℕ → List Tok → Bool
+bareIn s [] = false
+bareIn s (t ∷ ts) = bare s t || bareIn (drop (t .len) s) ts
+
+-- a Pragma that runs to just before the next LF of the text s, or to its end
+abbrev pub pragmaLine : List ℕ → Tok
+pragmaLine s = record { kind = pragma; len = length s - length (skip notLf s); suff = 0 }
+
+-- two lists of tokens of s agree up to the first bare pragma of the one, and there the other has a Pragma of the line
+pub record Parting (s : List ℕ) (l k : List Tok) : Type 0 where
+  pub before : List Tok
+  pub token : Tok
+  pub after : List Tok
+  pub other : List Tok
+  pub is : l ≡ before ++ token ∷ after
+  pub none-before : bareIn s before ≡ false
+  pub here : bare (drop (total before) s) token ≡ true
+  pub there : k ≡ before ++ pragmaLine (drop (total before) s) ∷ other

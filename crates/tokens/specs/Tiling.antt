@@ -1,0 +1,30 @@
+-- What is said of the tokens of a text, of each and of all.
+-- Assumes nothing.
+use Prim.Native.Nat.{ℕ, _+_, _≤_}
+use mathlib.Core.Path.{_≡_}
+use mathlib.Core.Bool.{true, _||_}
+use mathlib.Core.List.{List, [], _∷_}
+use Rattle.lexer.specs.Kinds.{isPlain, isLiteral}
+use Rattle.lexer.specs.Cut.{Tok}
+
+-- each element of a list has P
+abbrev pub Each : {A : Type 0} → (A → Type 0) → List A → Type 0
+Each P [] = Unit {0}
+Each P (a ∷ l) = P a × Each P l
+
+-- the lengths of tokens, added up
+abbrev pub total : List Tok → ℕ
+total [] = 0
+total (t ∷ ts) = t .len + total ts
+
+-- a token's record: it has a kind that is listed and at least one byte; suffix start 0 unless it is a literal, else between 1 and its length
+pub record Formed (t : Tok) : Type 0 where
+  pub listed : (isPlain (t .kind) || isLiteral (t .kind)) ≡ true
+  pub some : 1 ≤ t .len
+  pub plain : (isPlain (t .kind) ≡ true → t .suff ≡ 0)
+  pub literal : (isLiteral (t .kind) ≡ true → (1 ≤ t .suff) × (t .suff ≤ t .len))
+
+-- the tokens of a text of so many bytes tile it
+pub record Tiles (ts : List Tok) (bytes : ℕ) : Type 0 where
+  pub each : Each Formed ts
+  pub all : total ts ≡ bytes

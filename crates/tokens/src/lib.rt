@@ -1,0 +1,1 @@
+// Theorems on the tokens of a text: no code.
