@@ -1,5 +1,5 @@
 #!/usr/bin/env python3
-"""Compares the program `answers` with the Rust crate, task tok, on generated texts, under both profiles.
+"""Compares the program `answers` with the Rust crate on generated texts: task tok under both profiles, and task ident.
 
     tools/compare.py RELEASE DEBUG ANSWERS [--short N] [--random N] [--seed S] [--programs DIR]
 
@@ -85,8 +85,8 @@ def compare(options, batch):
     """How many cases were compared, and those that differ."""
     wrong = []
     total = 0
-    for profile, oracle in ((0, options.release), (1, options.debug)):
-        cases = b"".join(b"tok %d %s\n" % (profile, t.hex().encode() or b"-") for t in batch)
+    for task, oracle in (("tok 0", options.release), ("tok 1", options.debug), ("ident", options.release), ("ident", options.debug)):
+        cases = b"".join(b"%s %s\n" % (task.encode(), t.hex().encode() or b"-") for t in batch)
         theirs = answers(oracle, cases)
         ours = answers(options.answers, cases)
         if len(theirs) != len(ours) or len(ours) != len(batch) + 1:

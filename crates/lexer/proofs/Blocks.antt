@@ -1,20 +1,26 @@
 -- Comments: the laws of `block` and `slash`, and of the loop that scans a block comment.
 -- Assumes nothing.
-use Prim.Native.Nat.{ℕ, suc, _+_, _-_, _≤_, _<_}
+use Prim.Native.Nat.{ℕ, zero, suc, _+_, _-_, _≤_, _<_}
+use native.Mathlib.Decide.{decLe, decLt}
 use native.Mathlib.Omega.{arith}
 use native.Mathlib.Numerals.{add-one}
 use mathlib.Core.Path.{_≡_, refl, ap, sym, _∙_}
-use mathlib.Core.Bool.{Bool, true, false, cond, false≢true}
+use mathlib.Core.Bool.{Bool, true, false, cond, _&&_, false≢true}
 use mathlib.Core.List.{List, [], _∷_, tail}
-use lib.ListN.{length}
+use lib.ListN.{length, drop, getD, drop-of-length-le}
+use lib.Seq.{drop-cons}
 use lib.Dec.{eqb}
-use borrow.Author.Tests.{eq-eqb, ne-eqb, le-leb, lt-leb}
-use Rattle.lists.proofs.Bools.{and-false}
-use Rattle.unicode.specs.Text.{Decoded, Place, left, skip}
-use Rattle.unicode.proofs.Text.{decoded-point, left-end, from-place}
+use borrow.Author.Tests.{eq-eqb, ne-eqb, le-leb, lt-leb, eqb-true}
+use Rattle.lists.proofs.Bools.{by-test, both, and-false}
+use Rattle.lists.proofs.Cut.{by-length}
+use Rattle.unicode.specs.Utf8.{first, chars}
+use Rattle.unicode.specs.Text.{Place, left, skip}
+use Rattle.unicode.proofs.Text.{chars-nil, chars-first, from-place}
+use Rattle.unicode.proofs.Ascii.{wide, chars-ascii}
 use Rattle.lexer.specs.Cut.{peek, notLf, opens, closes, block, slash}
 use Rattle.lexer.specs.Kinds.{lineComment, blockComment, unclosedComment, slashMark}
 use Rattle.lexer.specs.Steps.{Parted, Flagged}
+use Rattle.lexer.proofs.Bytewise.{peek-same, tail-same, tail-less, peek-drop, tail-drop, stands}
 
 -- ---- one turn
 block-nil : (d : ℕ) → block d [] ≡ (false, [])
@@ -41,82 +47,135 @@ unfolding block
 block-on d c [] h k = refl
 block-on d c (x ∷ t) h k = rw (h, k)
 
+-- ---- by bytes: only ASCII opens or closes
+no-open : (c x : ℕ) → 0x80 ≤ c → opens c x ≡ false
+no-open c x h = rw (ne-eqb c 0x2F (λ e. omega arith))
+
+no-close : (c x : ℕ) → 0x80 ≤ c → closes c x ≡ false
+no-close c x h = rw (ne-eqb c 0x2A (λ e. omega arith))
+
+block-front : (n : ℕ) (l : List ℕ) (d : ℕ) → ((k : ℕ) → k < n → 0x80 ≤ getD l k 0) → n ≤ length l → block d (drop n l) ≡ block d l
+block-front zero l d h m = refl
+block-front (suc n) [] d h m = refl
+block-front (suc n) (a ∷ l) d h m =
+    let w = h 0 (omega arith) in
+    block-front n l d (λ k i. h (suc k) (omega arith)) (omega arith) ∙ sym (block-on d a l (no-open a (peek l) w) (no-close a (peek l) w))
+
+abbrev Bytes : List ℕ → Type 0
+Bytes s = (d : ℕ) → block d (chars s) ≡ (block d s .0, chars (block d s .1))
+
+-- an ASCII byte in front
+block-ascii : (a : ℕ) (s : List ℕ) → a < 0x80 → ((l : List ℕ) → length l ≤ length s → Bytes l) → Bytes (a ∷ s)
+block-ascii a s h ih d =
+    let v : block d (chars (a ∷ s)) ≡ block d (a ∷ chars s) = ap (block d) (chars-ascii a s h) in
+    let same : (k : ℕ) → k < 0x80 → eqb (peek (chars s)) k ≡ eqb (peek s) k = peek-same s in
+    let o : opens a (peek (chars s)) ≡ opens a (peek s) = ap (λ (b : Bool). eqb a 0x2F && b) (same 0x2A (omega arith)) in
+    let c : closes a (peek (chars s)) ≡ closes a (peek s) = ap (λ (b : Bool). eqb a 0x2A && b) (same 0x2F (omega arith)) in
+    by-test (opens a (peek s))
+    (λ t.
+    let e = tail-same s (omega (arith, eqb-true (peek s) 0x2A (both (eqb a 0x2F) (eqb (peek s) 0x2A) t .1))) in
+    v ∙ block-open d a (chars s) (o ∙ t) ∙ ap (block (suc d)) e ∙ ih (tail s) (tail-less s) (suc d) ∙ ap (λ (r : Bool × List ℕ). (r .0, chars (r .1))) (sym (block-open d a s t)))
+    (λ n. by-test (closes a (peek s))
+    (λ t.
+    let e = tail-same s (omega (arith, eqb-true (peek s) 0x2F (both (eqb a 0x2A) (eqb (peek s) 0x2F) t .1))) in
+    elim (decLe d 1) [
+      | yes l ↦ v ∙ block-shut d a (chars s) l (o ∙ n) (c ∙ t) ∙ ap (λ (x : List ℕ). (true, x)) e ∙ ap (λ (r : Bool × List ℕ). (r .0, chars (r .1))) (sym (block-shut d a s l n t))
+      | no m ↦
+        let l : 1 < d = omega arith in
+        v ∙ block-less d a (chars s) l (o ∙ n) (c ∙ t) ∙ ap (block (d - 1)) e ∙ ih (tail s) (tail-less s) (d - 1) ∙ ap (λ (r : Bool × List ℕ). (r .0, chars (r .1))) (sym (block-less d a s l n t))
+    ])
+    (λ m. v ∙ block-on d a (chars s) (o ∙ n) (c ∙ m) ∙ ih s (omega arith) d ∙ ap (λ (r : Bool × List ℕ). (r .0, chars (r .1))) (sym (block-on d a s n m))))
+
+block-bytes : (s : List ℕ) → Bytes s
+block-bytes =
+    by-length Bytes (λ d. ap (block d) chars-nil ∙ block-nil d ∙ ap (λ (l : List ℕ). (false, l)) (sym chars-nil) ∙ ap (λ (r : Bool × List ℕ). (r .0, chars (r .1))) (sym (block-nil d)))
+    (λ a s ih.
+    elim (decLt a 0x80) [
+      | yes h ↦ block-ascii a s h ih
+      | no n ↦ λ d.
+        let w = wide a s (omega arith) in
+        let k = first (a ∷ s) .1 in
+        let t = chars (drop k (a ∷ s)) in
+        ap (block d) (chars-first (a ∷ s) (omega arith))
+        ∙ block-on d (first (a ∷ s) .0) t (no-open (first (a ∷ s) .0) (peek t) (w .code)) (no-close (first (a ∷ s) .0) (peek t) (w .code))
+        ∙ ih (drop k (a ∷ s)) (w .less) d
+        ∙ ap (λ (r : Bool × List ℕ). (r .0, chars (r .1))) (block-front k (a ∷ s) d (w .bytes) (w .within))
+    ])
+
 -- ---- the loop: to go on from here comes to the same
 pub record Blocking (s : List ℕ) (at₀ d at : ℕ) : Type 0 where
   pub after : at₀ ≤ at
   pub within : at ≤ length s
   pub some : 1 ≤ d
   pub deep : d ≤ at + 1
-  pub same : block d (left s at) ≡ block 1 (left s at₀)
-
-flag-of : Bool × List ℕ → Bool
-flag-of r = r .0
+  pub same : block d (drop at s) ≡ block 1 (drop at₀ s)
 
 module _ {s : List ℕ} where
   pub blocking-none : {at : ℕ} → at ≤ length s → Blocking s at 1 at
   blocking-none h = record { after = omega arith; within = h; some = omega arith; deep = omega arith; same = refl }
 
-  pub block-unclosed : {at₀ d at : ℕ} → Blocking s at₀ d at → length s ≤ at → Flagged (block 1) s at₀ false at
-  block-unclosed {at₀} {d} {at} e h =
-      let q : block 1 (left s at₀) ≡ (false, []) = sym (e .same) ∙ (rw (left-end s at h) (block-nil d)) in
+  flagged : {at₀ at : ℕ} {b : Bool} → at₀ ≤ at → at ≤ length s → block 1 (drop at₀ s) ≡ (b, drop at s) → Flagged (block 1) s at₀ b at
+  flagged {at₀} {at} {b} a w q =
+      let e : block 1 (left s at₀) ≡ (b, left s at) = block-bytes (drop at₀ s) 1 ∙ ap (λ (r : Bool × List ℕ). (r .0, chars (r .1))) q in
       record {
-        what = ap (λ (r : Bool × List ℕ). r .0) (sym q);
-        place = record { after = e .after; within = e .within; there = left-end s at h ∙ ap (λ (r : Bool × List ℕ). r .1) (sym q) };
+        what = ap (λ (r : Bool × List ℕ). r .0) (sym e);
+        place = record { after = a; within = w; there = ap (λ (r : Bool × List ℕ). r .1) (sym e) };
       }
 
-  -- one turn: the character at `at`, what is peeked behind it, and the place past that
-  module _ {at₀ d at code wide x : ℕ} (e : Blocking s at₀ d at) (y : Decoded s at code wide) (l : at < length s) (f : x ≡ peek (left s (at + wide))) where
-    here : block d (code ∷ left s (at + wide)) ≡ block 1 (left s at₀)
-    here = ap (block d) (sym (decoded-point y l .view)) ∙ e .same
+  pub block-unclosed : {at₀ d at : ℕ} → Blocking s at₀ d at → length s ≤ at → Flagged (block 1) s at₀ false at
+  block-unclosed {at₀} {d} {at} e h = flagged (e .after) (e .within) (sym (e .same) ∙ rw (drop-of-length-le s {i = at} h) (block-nil d))
 
-    pub block-deeper : {d′ past : ℕ} {b : Bool} → Place s (at + wide) past (tail (left s (at + wide))) → b ≡ opens code x → b ≡ true → d′ ≡ d + 1 → Blocking s at₀ d′ past
-    block-deeper p o t u =
-        let c = decoded-point y l in
-        let h : opens code (peek (left s (at + wide))) ≡ true = rw f at (sym o ∙ t) in
+  -- one turn: the bytes at `at` and behind it
+  module _ {at₀ d at : ℕ} {b : Bool} (e : Blocking s at₀ d at) (l : at < length s) (o : b ≡ opens (getD s at 0) (getD s (at + 1) 0)) where
+    here : block d (getD s at 0 ∷ drop (at + 1) s) ≡ block 1 (drop at₀ s)
+    here = rw add-one (ap (block d) (sym (drop-cons s at 0 l)) ∙ e .same)
+
+    opened : {f : Bool} → b ≡ f → opens (getD s at 0) (peek (drop (at + 1) s)) ≡ f
+    opened t = rw (peek-drop (at + 1) s) (sym o ∙ t)
+
+    pub block-deeper : {d′ at′ : ℕ} → b ≡ true → d′ ≡ d + 1 → at′ ≡ at + 2 → Blocking s at₀ d′ at′
+    block-deeper t u v =
+        let k : getD s (at + 1) 0 ≡ 0x2A = eqb-true (getD s (at + 1) 0) 0x2A (both (eqb (getD s at 0) 0x2F) (eqb (getD s (at + 1) 0) 0x2A) (sym o ∙ t) .1) in
         record {
-          after = omega (arith, c .some, p .after);
-          within = p .within;
+          after = omega arith;
+          within = omega (arith, stands (at + 1) s (omega arith));
           some = omega arith;
-          deep = omega (arith, c .some, p .after);
-          same = rw (u, p .there, add-one) (sym (block-open d code _ h) ∙ here);
+          deep = omega arith;
+          same = rw (u, v, add-one) (ap (block (suc d)) (sym (tail-drop at s)) ∙ sym (block-open d (getD s at 0) (drop (at + 1) s) (opened t)) ∙ here);
         }
 
-    module _ {b b′ : Bool} (o : b ≡ opens code x) (t : b ≡ false) (o′ : b′ ≡ closes code x) where
-      pub block-closed : {d′ past : ℕ} → Place s (at + wide) past (tail (left s (at + wide))) → b′ ≡ true → d′ ≡ d - 1 → d′ ≡ 0 → Flagged (block 1) s at₀ true past
-      block-closed p t′ v z =
-          let c = decoded-point y l in
-          let h : opens code (peek (left s (at + wide))) ≡ false = rw f at (sym o ∙ t) in
-          let k : closes code (peek (left s (at + wide))) ≡ true = rw f at (sym o′ ∙ t′) in
-          let q : (true, tail (left s (at + wide))) ≡ block 1 (left s at₀) = sym (block-shut d code _ (omega arith) h k) ∙ here in
-          record {
-            what = ap (λ (r : Bool × List ℕ). r .0) q;
-            place = record { after = omega (arith, c .some, p .after, e .after); within = p .within; there = p .there ∙ ap (λ (r : Bool × List ℕ). r .1) q };
-          }
+    module _ {b′ : Bool} (t : b ≡ false) (o′ : b′ ≡ closes (getD s at 0) (getD s (at + 1) 0)) where
+      closing : {f : Bool} → b′ ≡ f → closes (getD s at 0) (peek (drop (at + 1) s)) ≡ f
+      closing i = rw (peek-drop (at + 1) s) (sym o′ ∙ i)
 
-      pub block-shallower : {d′ past : ℕ} → Place s (at + wide) past (tail (left s (at + wide))) → b′ ≡ true → d′ ≡ d - 1 → (d′ ≡ 0 → ⊥) → Blocking s at₀ d′ past
-      block-shallower p t′ v z =
-          let c = decoded-point y l in
-          let h : opens code (peek (left s (at + wide))) ≡ false = rw f at (sym o ∙ t) in
-          let k : closes code (peek (left s (at + wide))) ≡ true = rw f at (sym o′ ∙ t′) in
+      shut-within : b′ ≡ true → at + 2 ≤ length s
+      shut-within i =
+          let k : getD s (at + 1) 0 ≡ 0x2F = eqb-true (getD s (at + 1) 0) 0x2F (both (eqb (getD s at 0) 0x2A) (eqb (getD s (at + 1) 0) 0x2F) (sym o′ ∙ i) .1) in
+          omega (arith, stands (at + 1) s (omega arith))
+
+      pub block-closed : {d′ at′ : ℕ} → b′ ≡ true → d′ ≡ d - 1 → d′ ≡ 0 → at′ ≡ at + 2 → Flagged (block 1) s at₀ true at′
+      block-closed i v z u =
+          flagged (omega (arith, e .after)) (omega (arith, shut-within i))
+          (sym here ∙ block-shut d (getD s at 0) (drop (at + 1) s) (omega arith) (opened t) (closing i) ∙ rw u (ap (λ (x : List ℕ). (true, x)) (tail-drop at s)))
+
+      pub block-shallower : {d′ at′ : ℕ} → b′ ≡ true → d′ ≡ d - 1 → (d′ ≡ 0 → ⊥) → at′ ≡ at + 2 → Blocking s at₀ d′ at′
+      block-shallower i v z u =
           record {
-            after = omega (arith, c .some, p .after);
-            within = p .within;
+            after = omega (arith, e .after);
+            within = omega (arith, shut-within i);
             some = omega arith;
-            deep = omega (arith, c .some, p .after);
-            same = rw (v, p .there) (sym (block-less d code _ (omega arith) h k) ∙ here);
+            deep = omega (arith, e .deep);
+            same = rw (v, u) (ap (block (d - 1)) (sym (tail-drop at s)) ∙ sym (block-less d (getD s at 0) (drop (at + 1) s) (omega arith) (opened t) (closing i)) ∙ here);
           }
 
-      pub block-onward : {next : ℕ} → b′ ≡ false → next ≡ at + wide → Blocking s at₀ d next
-      block-onward t′ u =
-          let c = decoded-point y l in
-          let h : opens code (peek (left s (at + wide))) ≡ false = rw f at (sym o ∙ t) in
-          let k : closes code (peek (left s (at + wide))) ≡ false = rw f at (sym o′ ∙ t′) in
+      pub block-onward : {at′ : ℕ} → b′ ≡ false → at′ ≡ at + 1 → Blocking s at₀ d at′
+      block-onward i u =
           record {
-            after = omega (arith, c .some);
-            within = omega (arith, c .within);
+            after = omega (arith, e .after);
+            within = omega arith;
             some = e .some;
-            deep = omega (arith, c .some);
-            same = rw u (sym (block-on d code _ h k) ∙ here);
+            deep = omega (arith, e .deep);
+            same = rw u (sym (block-on d (getD s at 0) (drop (at + 1) s) (opened t) (closing i)) ∙ here);
           }
 
 pub ruleset blocking = (blocking-none, block-unclosed, block-deeper, block-closed, block-shallower, block-onward)

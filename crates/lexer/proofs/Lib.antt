@@ -3,6 +3,7 @@ pub mod Unicode
 pub mod Ident
 pub mod Flags
 pub mod Steps
+pub mod Bytewise
 pub mod Blocks
 pub mod Digits
 pub mod Names

@@ -1,20 +1,23 @@
 -- Identifiers, pragmas, annotations and hardware identifiers, as `search` takes the laws.
 -- Assumes nothing.
 use Prim.Native.Nat.{ℕ, suc, _+_, _≤_, _<_}
+use native.Mathlib.Decide.{decLt}
 use native.Mathlib.Omega.{arith}
 use native.Mathlib.Numerals.{add-one}
 use mathlib.Core.Path.{_≡_, refl, ap, sym, _∙_}
 use mathlib.Core.Bool.{Bool, true, false, cond}
-use mathlib.Core.List.{List, _∷_}
+use mathlib.Core.List.{List, [], _∷_}
 use lib.ListN.{length, drop, getD, drop-of-length-le}
 use lib.Seq.{drop-cons, drop-drop}
-use borrow.Author.Tests.{eq-eqb, ne-eqb}
+use lib.Dec.{leb}
+use borrow.Author.Tests.{eq-eqb, ne-eqb, lt-leb}
 use Rattle.unicode.specs.Text.{Decoded, Place, Ate, left, skip}
-use Rattle.unicode.proofs.Text.{decoded-point, left-end, from-place}
+use Rattle.unicode.proofs.Text.{decoded-point, left-end, from-place, skip-nil, skip-stop}
+use Rattle.unicode.proofs.Ascii.{ascii-decoded}
 use Rattle.lexer.specs.Cut.{peek, notLf, isDigit, orUnderscore, met, digits, agree, pragmaWord, pound, wideEmoji, goesOn, name, word, annotated, hardware}
 use Rattle.lexer.specs.Kinds.{ident, hardwareIdent, invalidIdent, pragma, annotation, atSign, dollar}
 use Rattle.lexer.specs.Unicode.{startIn, moreIn, lent}
-use Rattle.lexer.specs.Steps.{Parted, Agreed}
+use Rattle.lexer.specs.Steps.{Parted, Agreed, Ran}
 use Rattle.lexer.proofs.Digits.{stay, parted, ate-digits}
 
 -- ---- a word against the text: to go on from here comes to the same
@@ -93,6 +96,39 @@ module _ (start more emoji s : List ℕ) (at : ℕ) where
         let h : wideEmoji (lent start more emoji) (peek (skip (moreIn more) (left s at))) ≡ false = rw seen (sym o ∙ t) in
         parted (name (lent start more emoji)) s at (ident, skip (moreIn more) (left s at)) (rw h) k p
 
+  -- behind a run of ASCII: it ends there, or goes on from there
+  abbrev by-skip : List ℕ → ℕ × List ℕ
+  by-skip r = cond (wideEmoji (lent start more emoji) (peek r)) (invalidIdent, skip (goesOn (lent start more emoji)) r) (ident, r)
+
+  module _ {e : ℕ} (p : Ran (moreIn more) s at e) where
+    name-same : name (lent start more emoji) (left s at) ≡ by-skip (skip (moreIn more) (left s e))
+    unfolding name
+    name-same = ap by-skip (sym (p .same))
+
+    -- what is left there, where the byte is ASCII or the end
+    left-there : getD s e 0 < 0x80 → (skip (moreIn more) (left s e) ≡ left s e) × (peek (left s e) < 0x80)
+    left-there h =
+        elim (decLt e (length s)) [
+          | yes l ↦
+            let v : left s e ≡ getD s e 0 ∷ left s (e + 1) = decoded-point (ascii-decoded refl l h) l .view in
+            (ap (skip (moreIn more)) v ∙ skip-stop (moreIn more) (getD s e 0) (left s (e + 1)) (p .stop l h) ∙ sym v, rw v h)
+          | no n ↦
+            let z : left s e ≡ [] = left-end s e (omega arith) in
+            (ap (skip (moreIn more)) z ∙ skip-nil (moreIn more) ∙ sym z, rw z (omega arith))
+        ]
+
+    pub name-ascii : {b kind : ℕ} → b ≡ getD s e 0 → b < 0x80 → kind ≡ ident → Parted (name (lent start more emoji)) s at kind e
+    name-ascii f h k =
+        let q = left-there (omega arith) in
+        let g : leb 0x80 (peek (left s e)) ≡ false = lt-leb 0x80 (peek (left s e)) (q .1) in
+        parted (name (lent start more emoji)) s at (ident, left s e) (name-same ∙ ap by-skip (q .0) ∙ rw g) k (record { after = p .after; within = p .within; there = refl })
+
+    pub name-run : {end kind end′ kind′ : ℕ} → Parted (name (lent start more emoji)) s e kind end → kind′ ≡ kind → end′ ≡ end → Parted (name (lent start more emoji)) s at kind′ end′
+    unfolding name
+    name-run q k u =
+        parted (name (lent start more emoji)) s at (by-skip (skip (moreIn more) (left s e))) name-same (k ∙ q .what)
+        (rw u (record { after = omega (arith, p .after, q .place .after); within = q .place .within; there = q .place .there }))
+
   -- behind c, which stands at `own`
   module _ (profile c : ℕ) where
     pub word-pragma : {own n e end kind : ℕ} → profile ≡ 1 → left s own ≡ c ∷ left s at → Agreed pragmaWord s own n e → n ≡ 6 → Place s at end (skip notLf (left s at)) → kind ≡ pragma → Parted (word (lent start more emoji) profile c) s at kind end
@@ -142,4 +178,4 @@ module _ (start more emoji s : List ℕ) (at : ℕ) where
         let d = ate-digits isDigit q in
         parted (hardware (lent start more emoji)) s at (cond (digits isDigit (left s at) .0) hardwareIdent dollar, digits isDigit (left s at) .1) (rw h) (rw (← d .what) k) (d .place)
 
-pub ruleset naming = (pound-pragma, pound-else, name-fake, name-plain, word-pragma, word-not-pragma, word-plain, annotated-line, annotated-none, hardware-fake, hardware-digits)
+pub ruleset naming = (pound-pragma, pound-else, name-fake, name-plain, name-ascii, name-run, word-pragma, word-not-pragma, word-plain, annotated-line, annotated-none, hardware-fake, hardware-digits)

@@ -4,9 +4,10 @@
 use Prim.Native.Nat.{ℕ, _+_, _≤_}
 use native.Mathlib.Decide.{decLt}
 use native.Mathlib.Omega.{arith}
-use mathlib.Core.Path.{_≡_, ap, sym, _∙_}
+use mathlib.Core.Path.{_≡_, refl, ap, sym, _∙_}
 use mathlib.Core.List.{List, tail}
-use lib.ListN.{length}
+use lib.ListN.{length, drop}
+use Rattle.unicode.specs.Utf8.{first}
 use Rattle.unicode.specs.Text.{Decoded, Place, left}
 use Rattle.unicode.proofs.Text.{decoded-point, decoded-end, left-end}
 use Rattle.lexer.specs.Cut.{peek}
@@ -18,6 +19,12 @@ first-is {s} {at} {code} {wide} d =
       | yes h ↦ sym (ap peek (decoded-point d h .view))
       | no n ↦ decoded-end d (omega arith) .0 ∙ sym (ap peek (left-end s at (omega arith)))
     ]
+
+-- the character alone
+pub peeked : (s : List ℕ) (at : ℕ) {code : ℕ} → code ≡ first (drop at s) .0 → code ≡ peek (left s at)
+peeked s at {code} e =
+    let d : Decoded s at code (first (drop at s) .1) = record { code-is = e; wide-is = refl } in
+    first-is d
 
 pub bumped : {s : List ℕ} {at code wide : ℕ} → Decoded s at code wide → at ≤ length s → Place s at (at + wide) (tail (left s at))
 bumped {s} {at} {code} {wide} d l =

@@ -5,11 +5,11 @@ use mathlib.Core.Path.{_≡_}
 use mathlib.Core.Bool.{Bool, false, cond, _&&_, _||_}
 use mathlib.Core.List.{List, _∷_, _++_}
 use lib.Dec.{eqb}
-use lib.ListN.{length, drop}
+use lib.ListN.{length, drop, getD}
 use lib.Seq.{sets}
 use Rattle.unicode.specs.Utf8.{chars}
 use Rattle.text.specs.Answer.{Answered, done, checkRoom}
-use Rattle.unicode.specs.Text.{Place, left}
+use Rattle.unicode.specs.Text.{Place, left, skip}
 use Rattle.lexer.specs.Chars.{isWhitespace}
 use Rattle.lexer.specs.Kinds.{eof}
 use Rattle.lexer.specs.Cut.{Letters, agree, isBit, isDigit, quoted, quoteKind, token, tokens, flat}
@@ -23,6 +23,13 @@ pub record Parted (f : List ℕ → ℕ × List ℕ) (s : List ℕ) (at kind end
 pub record Flagged (f : List ℕ → Bool × List ℕ) (s : List ℕ) (at : ℕ) (flag : Bool) (end : ℕ) : Type 0 where
   pub what : flag ≡ f (left s at) .0
   pub place : Place s at end (f (left s at) .1)
+
+-- a run of what passes a test, from `at` to `end`, that stops at ASCII only where the test fails
+pub record Ran (p : ℕ → Bool) (s : List ℕ) (at end : ℕ) : Type 0 where
+  pub after : at ≤ end
+  pub within : end ≤ length s
+  pub same : skip p (left s end) ≡ skip p (left s at)
+  pub stop : (end < length s → getD s end 0 < 0x80 → p (getD s end 0) ≡ false)
 
 -- how much of the text agrees with a word, and the place behind that
 pub record Agreed (word s : List ℕ) (at count end : ℕ) : Type 0 where

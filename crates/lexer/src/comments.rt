@@ -1,12 +1,12 @@
 // Comments.
 ghost use mathlib.Core.Path.{_≡_};
-ghost use Prim.Native.Nat.{_≤_};
-ghost use lib.ListN.{length};
+ghost use Prim.Native.Nat.{_+_, _≤_, _<_};
+ghost use lib.ListN.{length, getD};
 ghost use Rattle.lexer.specs.Cut.{opens, closes, block, slash};
 ghost use Rattle.lexer.specs.Steps.{Parted, Flagged};
 use crate::cursor::Cursor;
+use crate::cursor::byte;
 use crate::kinds;
-use unicode::utf8::decode;
 
 // A kind, and the place behind the token.
 pub struct Part {
@@ -20,25 +20,27 @@ pub struct Block {
     pub at: usize,
 }
 
-fn is_open(c: u32, x: u32) -> bool
-    ensures { λ r. ⌜ r ≡ opens c x ⌝ }
+fn is_open(text: &[u8], at: usize) -> bool
+    requires { ⌜ at < length (now text) ⌝ }
+    ensures { λ r. ⌜ r ≡ opens (getD (now (text .entry)) at 0) (getD (now (text .entry)) (at + 1) 0) ⌝ }
 {
-    if c == 0x2F {
-        return x == 0x2A;
+    if byte(text, at) == 0x2F {
+        return byte(text, at + 1) == 0x2A;
     }
     false
 }
 
-fn is_close(c: u32, x: u32) -> bool
-    ensures { λ r. ⌜ r ≡ closes c x ⌝ }
+fn is_close(text: &[u8], at: usize) -> bool
+    requires { ⌜ at < length (now text) ⌝ }
+    ensures { λ r. ⌜ r ≡ closes (getD (now (text .entry)) at 0) (getD (now (text .entry)) (at + 1) 0) ⌝ }
 {
-    if c == 0x2A {
-        return x == 0x2F;
+    if byte(text, at) == 0x2A {
+        return byte(text, at + 1) == 0x2F;
     }
     false
 }
 
-// Behind the slash and the asterisk that open a block comment. Block comments nest.
+// Behind the slash and the asterisk that open a block comment, byte by byte: only ASCII opens or closes. Block comments nest.
 fn block_comment(text: &[u8], from: Cursor) -> Block
     requires { ⌜ from .at ≤ length (now text) ⌝ }
     ensures { λ r. ⌜ Flagged (block 1) (now (text .entry)) (from .at) (r .closed) (r .at) ⌝ }
@@ -49,22 +51,18 @@ fn block_comment(text: &[u8], from: Cursor) -> Block
         if text.len() <= at {
             break Block { closed: false, at };
         }
-        let d = decode(text, at);
-        let next = Cursor { at: at + d.wide };
-        let x = next.first(text);
-        let past = next.bump(text);
-        if is_open(d.code, x) {
+        if is_open(text, at) {
             depth = depth + 1;
-            at = past.at;
+            at = at + 2;
         } else {
-            if is_close(d.code, x) {
+            if is_close(text, at) {
                 depth = depth - 1;
-                at = past.at;
+                at = at + 2;
                 if depth == 0 {
                     break Block { closed: true, at };
                 }
             } else {
-                at = next.at;
+                at = at + 1;
             }
         }
     }

@@ -3,16 +3,18 @@ ghost use mathlib.Core.Path.{_≡_};
 ghost use mathlib.Core.Bool.{false};
 ghost use mathlib.Core.List.{tail};
 ghost use Prim.Native.Nat.{_≤_};
-ghost use lib.ListN.{length};
+ghost use lib.ListN.{length, getD};
 ghost use Rattle.unicode.specs.Ranges.{_to_, inRange};
 ghost use Rattle.unicode.specs.Text.{Place, Ate, left, skip};
 ghost use Rattle.lexer.specs.Chars.{isWhitespace};
 ghost use Rattle.lexer.specs.Cut.{peek, notLf, isDigit, isHexDigit, orUnderscore, met, wideEmoji, goesOn};
 ghost use Rattle.lexer.specs.Unicode.{startIn, moreIn, lent};
+ghost use Rattle.lexer.specs.Steps.{Ran};
 use crate::is_whitespace;
 use unicode::properties::is_emoji_in;
 use unicode::properties::is_xid_continue_in;
 use unicode::properties::is_xid_start_in;
+use unicode::utf8::code;
 use unicode::utf8::decode;
 
 pub struct Cursor {
@@ -23,6 +25,17 @@ pub struct Cursor {
 pub struct Digits {
     pub any: bool,
     pub at: usize,
+}
+
+// The byte at a place, or 0 past the end.
+pub fn byte(text: &[u8], at: usize) -> u32
+    ensures { λ r. ⌜ r ≡ getD (now (text .entry)) at 0 ⌝ }
+{
+    if at < text.len() {
+        let b = text[at];
+        return b as u32;
+    }
+    0
 }
 
 pub fn is_id_start_in(start: &[u32], c: u32) -> bool
@@ -93,8 +106,7 @@ impl Cursor {
     pub fn first(self, text: &[u8]) -> u32
         ensures { λ r. ⌜ r ≡ peek (left (now (text .entry)) (self .at)) ⌝ }
     {
-        let d = decode(text, self.at);
-        d.code
+        code(text, self.at)
     }
 
     // Past the next character, or at the end.
@@ -114,11 +126,10 @@ impl Cursor {
     {
         let mut at = self.at;
         while at < text.len() {
-            let d = decode(text, at);
-            if !not_lf(d.code) {
+            if !not_lf(byte(text, at)) {
                 return Cursor { at };
             }
-            at = at + d.wide;
+            at = at + 1;
         }
         Cursor { at }
     }
@@ -129,11 +140,19 @@ impl Cursor {
     {
         let mut at = self.at;
         while at < text.len() {
-            let d = decode(text, at);
-            if !is_whitespace(d.code) {
-                return Cursor { at };
+            let b = byte(text, at);
+            if b < 0x80 {
+                if !is_whitespace(b) {
+                    return Cursor { at };
+                }
+                at = at + 1;
+            } else {
+                let d = decode(text, at);
+                if !is_whitespace(d.code) {
+                    return Cursor { at };
+                }
+                at = at + d.wide;
             }
-            at = at + d.wide;
         }
         Cursor { at }
     }
@@ -144,11 +163,38 @@ impl Cursor {
     {
         let mut at = self.at;
         while at < text.len() {
-            let d = decode(text, at);
-            if !is_xid_continue_in(more, d.code) {
+            let b = byte(text, at);
+            if b < 0x80 {
+                if !is_xid_continue_in(more, b) {
+                    return Cursor { at };
+                }
+                at = at + 1;
+            } else {
+                let d = decode(text, at);
+                if !is_xid_continue_in(more, d.code) {
+                    return Cursor { at };
+                }
+                at = at + d.wide;
+            }
+        }
+        Cursor { at }
+    }
+
+    // What an identifier goes on with, as long as it is ASCII.
+    pub fn eat_ascii_continue(self, text: &[u8], more: &[u32]) -> Cursor
+        requires { ⌜ self .at ≤ length (now text) ⌝ }
+        ensures { λ r. ⌜ Ran (moreIn (now (more .entry))) (now (text .entry)) (self .at) (r .at) ⌝ }
+    {
+        let mut at = self.at;
+        while at < text.len() {
+            let b = byte(text, at);
+            if 0x80 <= b {
                 return Cursor { at };
             }
-            at = at + d.wide;
+            if !is_xid_continue_in(more, b) {
+                return Cursor { at };
+            }
+            at = at + 1;
         }
         Cursor { at }
     }
@@ -176,12 +222,12 @@ impl Cursor {
         let mut at = self.at;
         let mut any = false;
         while at < text.len() {
-            let d = decode(text, at);
-            if !is_digit_or_underscore(d.code) {
+            let b = byte(text, at);
+            if !is_digit_or_underscore(b) {
                 return Digits { any, at };
             }
-            any = met_digit(any, d.code);
-            at = at + d.wide;
+            any = met_digit(any, b);
+            at = at + 1;
         }
         Digits { any, at }
     }
@@ -193,12 +239,12 @@ impl Cursor {
         let mut at = self.at;
         let mut any = false;
         while at < text.len() {
-            let d = decode(text, at);
-            if !is_hex_or_underscore(d.code) {
+            let b = byte(text, at);
+            if !is_hex_or_underscore(b) {
                 return Digits { any, at };
             }
-            any = met_hex(any, d.code);
-            at = at + d.wide;
+            any = met_hex(any, b);
+            at = at + 1;
         }
         Digits { any, at }
     }

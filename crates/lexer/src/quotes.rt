@@ -1,14 +1,14 @@
 // Quoted texts.
 ghost use mathlib.Core.Path.{_≡_};
 ghost use mathlib.Core.Bool.{cond, _&&_, _||_};
-ghost use Prim.Native.Nat.{_+_, _≤_, min};
+ghost use Prim.Native.Nat.{_+_, _≤_, _<_, min};
 ghost use lib.Dec.{eqb};
-ghost use lib.ListN.{length};
+ghost use lib.ListN.{length, getD};
 ghost use Rattle.lexer.specs.Cut.{isBit, escapes};
 ghost use Rattle.lexer.specs.Kinds.{str, bitStr};
 ghost use Rattle.lexer.specs.Steps.{Quoted, Added, bitsBy};
 use crate::cursor::Cursor;
-use unicode::utf8::decode;
+use crate::cursor::byte;
 
 pub struct Quote {
     pub closed: bool,
@@ -24,30 +24,6 @@ struct Body {
     lines: u32,
     twice: bool,
     prev: u32,
-}
-
-fn is_bit(c: u32) -> bool
-    ensures { λ r. ⌜ r ≡ isBit c ⌝ }
-{
-    if c == 0x30 {
-        return true;
-    }
-    if c == 0x31 {
-        return true;
-    }
-    c == 0x5F
-}
-
-fn stays_plain(plain: bool, c: u32) -> bool
-    ensures { λ r. ⌜ r ≡ (plain && (eqb c 0x0A || isBit c)) ⌝ }
-{
-    if !plain {
-        return false;
-    }
-    if c == 0x0A {
-        return true;
-    }
-    is_bit(c)
 }
 
 fn count_lines(lines: u32, c: u32) -> u32
@@ -80,14 +56,29 @@ fn add(b: Body, c: u32) -> Body
     requires { ⌜ b .lines ≤ 2 ⌝ }
     ensures { λ r. ⌜ Added c (b .plain) (b .lines) (b .twice) (b .prev) (r .plain) (r .lines) (r .twice) (r .prev) ⌝ }
 {
-    let plain = stays_plain(b.plain, c);
-    let lines = count_lines(b.lines, c);
-    let twice = is_twice(b.twice, b.prev, c);
-    Body {
-        plain,
-        lines,
-        twice,
+    let kept = Body {
+        plain: b.plain,
+        lines: b.lines,
+        twice: b.twice,
         prev: c,
+    };
+    if c == 0x30 {
+        return kept;
+    }
+    if c == 0x31 {
+        return kept;
+    }
+    if c == 0x5F {
+        let twice = is_twice(b.twice, b.prev, c);
+        return Body { twice, ..kept };
+    }
+    if c == 0x0A {
+        let lines = count_lines(b.lines, c);
+        return Body { lines, ..kept };
+    }
+    Body {
+        plain: false,
+        ..kept
     }
 }
 
@@ -131,10 +122,12 @@ fn quote_kind(closed: bool, bits: bool, twice: bool) -> u32
     56
 }
 
-fn is_escape(c: u32, x: u32) -> bool
-    ensures { λ r. ⌜ r ≡ escapes c x ⌝ }
+fn is_escape(text: &[u8], at: usize) -> bool
+    requires { ⌜ at < length (now text) ⌝ }
+    ensures { λ r. ⌜ r ≡ escapes (getD (now (text .entry)) at 0) (getD (now (text .entry)) (at + 1) 0) ⌝ }
 {
-    if c == 0x5C {
+    if byte(text, at) == 0x5C {
+        let x = byte(text, at + 1);
         if x == 0x5C {
             return true;
         }
@@ -143,7 +136,7 @@ fn is_escape(c: u32, x: u32) -> bool
     false
 }
 
-// Behind a double quote.
+// Behind a double quote, byte by byte: only ASCII ends it or is a bit.
 pub fn double_quoted_string(text: &[u8], from: Cursor) -> Quote
     requires { ⌜ from .at ≤ length (now text) ⌝ }
     ensures { λ r. ⌜ Quoted (now (text .entry)) (from .at) (r .closed) (r .kind) (r .at) ⌝ }
@@ -156,25 +149,22 @@ pub fn double_quoted_string(text: &[u8], from: Cursor) -> Quote
         prev: 0,
     };
     while at < text.len() {
-        let d = decode(text, at);
-        let next = Cursor { at: at + d.wide };
-        if d.code == 0x22 {
+        let c = byte(text, at);
+        if c == 0x22 {
             let bits = is_bits(true, body.plain, body.lines, body.prev);
             let kind = quote_kind(true, bits, body.twice);
             return Quote {
                 closed: true,
                 kind,
-                at: next.at,
+                at: at + 1,
             };
         }
-        body = add(body, d.code);
-        let x = next.first(text);
-        if is_escape(d.code, x) {
-            body = add(body, x);
-            let past = next.bump(text);
-            at = past.at;
+        body = add(body, c);
+        if is_escape(text, at) {
+            body = add(body, byte(text, at + 1));
+            at = at + 2;
         } else {
-            at = next.at;
+            at = at + 1;
         }
     }
     let bits = is_bits(false, body.plain, body.lines, body.prev);

@@ -9,6 +9,7 @@ ghost use Rattle.lexer.specs.Unicode.{lent};
 ghost use Rattle.lexer.specs.Steps.{Parted, Agreed};
 use crate::comments::Part;
 use crate::cursor::Cursor;
+use crate::cursor::byte;
 use crate::cursor::is_id_start_in;
 use crate::cursor::is_wide_emoji;
 use crate::kinds;
@@ -60,8 +61,8 @@ pub fn pound(text: &[u8], from: Cursor) -> Part
     }
 }
 
-// Behind the first character of an identifier.
-fn name(text: &[u8], from: Cursor, start: &[u32], more: &[u32], emoji: &[u32]) -> Part
+// Behind the ASCII that an identifier begins with.
+fn wide_name(text: &[u8], from: Cursor, start: &[u32], more: &[u32], emoji: &[u32]) -> Part
     requires { ⌜ from .at ≤ length (now text) ⌝ }
     ensures { λ r. ⌜ Parted (name (lent (now (start .entry)) (now (more .entry)) (now (emoji .entry)))) (now (text .entry)) (from .at) (r .kind) (r .at) ⌝ }
 {
@@ -76,6 +77,25 @@ fn name(text: &[u8], from: Cursor, start: &[u32], more: &[u32], emoji: &[u32]) -
     Part {
         kind: kinds::IDENT,
         at: end.at,
+    }
+}
+
+// Behind the first character of an identifier. Most are of ASCII alone, and end here.
+fn name(text: &[u8], from: Cursor, start: &[u32], more: &[u32], emoji: &[u32]) -> Part
+    requires { ⌜ from .at ≤ length (now text) ⌝ }
+    ensures { λ r. ⌜ Parted (name (lent (now (start .entry)) (now (more .entry)) (now (emoji .entry)))) (now (text .entry)) (from .at) (r .kind) (r .at) ⌝ }
+{
+    let run = from.eat_ascii_continue(text, more);
+    if byte(text, run.at) < 0x80 {
+        return Part {
+            kind: kinds::IDENT,
+            at: run.at,
+        };
+    }
+    let p = wide_name(text, run, start, more, emoji);
+    Part {
+        kind: p.kind,
+        at: p.at,
     }
 }
 

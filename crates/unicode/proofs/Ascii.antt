@@ -1,27 +1,32 @@
 -- A byte below 80 is a character of its own, and no byte of any other character is below 80: so what turns on ASCII alone can go byte
 -- by byte.
 -- Assumes nothing.
-use Prim.Native.Nat.{ℕ, zero, suc, _≤_, _<_}
+use Prim.Native.Nat.{ℕ, zero, suc, _+_, _≤_, _<_}
 use native.Mathlib.Decide.{decLt}
 use native.Mathlib.Omega.{arith}
 use mathlib.Core.Path.{_≡_, refl, ap, sym, _∙_}
-use mathlib.Core.Bool.{Bool, true, false}
+use mathlib.Core.Bool.{Bool, true, false, not}
 use mathlib.Core.List.{List, [], _∷_}
-use lib.ListN.{length, drop, getD, length-drop}
+use native.Mathlib.Numerals.{add-one}
+use lib.ListN.{length, drop, getD, length-drop, drop-of-length-le}
+use lib.Seq.{drop-cons}
+use borrow.Author.Tests.{not-true, not-false}
 use Rattle.lists.specs.Eat.{eat}
 use Rattle.lists.proofs.Bools.{by-test}
 use Rattle.lists.proofs.Cut.{by-length}
-use Rattle.lists.proofs.Eat.{eat-more, eat-stop}
+use Rattle.lists.proofs.Eat.{eat-nil, eat-more, eat-stop}
 use Rattle.unicode.specs.Utf8.{first, chars}
-use Rattle.unicode.specs.Text.{skip}
+use Rattle.unicode.specs.Text.{Decoded, left, Place, Eating, Ate, keep, skip}
 use Rattle.unicode.proofs.First.{fine, over-3, over-4}
 use Rattle.unicode.proofs.Rows.{Seen, seen-1, seen-2, seen-3, seen-4, seen-none, seen, first-1, low-ge}
-use Rattle.unicode.proofs.Text.{chars-nil, chars-first, skip-nil, skip-more, skip-stop}
+use Rattle.unicode.proofs.Text.{chars-nil, chars-first, skip-nil, skip-more, skip-stop, go-on, halt-skip}
 
 -- ---- a first byte that is not ASCII: its character is not, nor is any byte of it
-record Wide (a : ℕ) (s : List ℕ) (c w : ℕ) : Type 0 where
-  code : 0x80 ≤ c
-  bytes : (k : ℕ) → k < w → 0x80 ≤ getD (a ∷ s) k 0
+pub record Wide (a : ℕ) (s : List ℕ) (c w : ℕ) : Type 0 where
+  pub code : 0x80 ≤ c
+  pub bytes : (k : ℕ) → k < w → 0x80 ≤ getD (a ∷ s) k 0
+  pub within : w ≤ suc (length s)
+  pub less : length (drop w (a ∷ s)) ≤ length s
 
 module _ (a : ℕ) (s : List ℕ) {w : ℕ} (h : 0x80 ≤ a) (most : w ≤ 4) where
   up-to-four : (1 < w → 0x80 ≤ getD s 0 0) → (2 < w → 0x80 ≤ getD s 1 0) → (3 < w → 0x80 ≤ getD s 2 0) → (k : ℕ) → k < w → 0x80 ≤ getD (a ∷ s) k 0
@@ -31,7 +36,11 @@ module _ (a : ℕ) (s : List ℕ) {w : ℕ} (h : 0x80 ≤ a) (most : w ≤ 4) wh
   up-to-four x y z (suc (suc (suc zero))) l = z l
   up-to-four x y z (suc (suc (suc (suc k)))) l = absurd (omega arith)
 
-wide-of : (a : ℕ) (s : List ℕ) (c w : ℕ) → 0x80 ≤ a → Seen a s c w → Wide a s c w
+record NotAscii (a : ℕ) (s : List ℕ) (c w : ℕ) : Type 0 where
+  code : 0x80 ≤ c
+  bytes : (k : ℕ) → k < w → 0x80 ≤ getD (a ∷ s) k 0
+
+wide-of : (a : ℕ) (s : List ℕ) (c w : ℕ) → 0x80 ≤ a → Seen a s c w → NotAscii a s c w
 wide-of a s c w h (seen-1 i) = absurd (omega arith)
 wide-of a s c w h (seen-2 i j) =
     record { code = omega (arith, i .over, i .under); bytes = up-to-four a s h (omega arith) (λ l. j .over) (λ l. absurd (omega arith)) (λ l. absurd (omega arith)) }
@@ -48,8 +57,11 @@ wide-of a s c w h (seen-4 i j k m) =
 wide-of a s c w h (seen-none i) =
     record { code = omega arith; bytes = up-to-four a s h (omega arith) (λ l. absurd (omega arith)) (λ l. absurd (omega arith)) (λ l. absurd (omega arith)) }
 
-wide : (a : ℕ) (s : List ℕ) → 0x80 ≤ a → Wide a s (first (a ∷ s) .0) (first (a ∷ s) .1)
-wide a s h = wide-of a s (first (a ∷ s) .0) (first (a ∷ s) .1) h (seen a s)
+pub wide : (a : ℕ) (s : List ℕ) → 0x80 ≤ a → Wide a s (first (a ∷ s) .0) (first (a ∷ s) .1)
+wide a s h =
+    let w = first (a ∷ s) .1 in
+    let n = wide-of a s (first (a ∷ s) .0) w h (seen a s) in
+    record { code = n .code; bytes = n .bytes; within = fine a s .within; less = omega (arith, fine a s .some, length-drop w (a ∷ s)) }
 
 pub wide-code : (a : ℕ) (s : List ℕ) → 0x80 ≤ a → 0x80 ≤ first (a ∷ s) .0
 wide-code a s h = wide a s h .code
@@ -101,3 +113,73 @@ module _ (p : ℕ → Bool) (all : (c : ℕ) → 0x80 ≤ c → p c ≡ true) wh
             ∙ ih (drop w (a ∷ s)) less
             ∙ ap chars (skip-front w (a ∷ s) (wide a s h .bytes) (f .within))
       ])
+
+-- ---- a loop that eats byte by byte: to go on from here comes to the same
+module _ {S : Type 0} (p : ℕ → Bool) (g : S → ℕ → S) (s : List ℕ) where
+  pub record Going (at₀ : ℕ) (x₀ : S) (at : ℕ) (x : S) : Type 0 where
+    pub after : at₀ ≤ at
+    pub within : at ≤ length s
+    pub same : eat p g x (drop at s) ≡ eat p g x₀ (drop at₀ s)
+
+module _ {S : Type 0} {p : ℕ → Bool} {g : S → ℕ → S} {s : List ℕ} where
+  pub going-none : {at : ℕ} {x : S} → at ≤ length s → Going p g s at x at x
+  going-none h = record { after = omega arith; within = h; same = refl }
+
+  -- the byte at a place, in front of those behind it
+  pub going-on : {at₀ at at′ b : ℕ} {x₀ x x′ : S} {f : Bool} → Going p g s at₀ x₀ at x → b ≡ getD s at 0 → at < length s → f ≡ p b → not f ≡ false → at′ ≡ at + 1 → x′ ≡ g x b → Going p g s at₀ x₀ at′ x′
+  going-on {at = at} {b = b} {x = x} {f = f} e v l t n u w =
+      let k : p (getD s at 0) ≡ true = rw v at (sym t ∙ not-false f n) in
+      record {
+        after = omega (arith, e .after);
+        within = omega arith;
+        same = rw (u, w, v, add-one) (sym (eat-more p g x (getD s at 0) (drop (suc at) s) k) ∙ ap (eat p g x) (sym (drop-cons s at 0 l)) ∙ e .same);
+      }
+
+  -- where it stops
+  stops : {at₀ at b : ℕ} {x₀ x : S} {f : Bool} → Going p g s at₀ x₀ at x → b ≡ getD s at 0 → at < length s → f ≡ p b → not f ≡ true → eat p g x₀ (drop at₀ s) ≡ (x, drop at s)
+  stops {at = at} {x = x} {f = f} e v l t n =
+      let k : p (getD s at 0) ≡ false = rw v at (sym t ∙ not-true f n) in
+      sym (e .same) ∙ rw (drop-cons s at 0 l) (eat-stop p g x (getD s at 0) (drop (suc at) s) k)
+
+  ends : {at₀ at : ℕ} {x₀ x : S} → Going p g s at₀ x₀ at x → length s ≤ at → eat p g x₀ (drop at₀ s) ≡ (x, drop at s)
+  ends {at = at} {x = x} e l = sym (e .same) ∙ rw (drop-of-length-le s {i = at} l) (eat-nil p g x)
+
+  -- a test that only ASCII passes: the same is eaten of the characters
+  ate-of : {at₀ at : ℕ} {x₀ x : S} → ((c : ℕ) → 0x80 ≤ c → p c ≡ false) → Going p g s at₀ x₀ at x → eat p g x₀ (drop at₀ s) ≡ (x, drop at s) → Ate p g s at₀ x₀ at x
+  ate-of {at₀} {at} {x₀} {x} none e h =
+      let q : eat p g x₀ (left s at₀) ≡ (x, left s at) = eat-bytes p g none x₀ (drop at₀ s) ∙ ap (λ (r : S × List ℕ). (r .0, chars (r .1))) h in
+      record { place = record { after = e .after; within = e .within; there = ap (λ (r : S × List ℕ). r .1) (sym q) }; state = ap (λ (r : S × List ℕ). r .0) (sym q) }
+
+  pub going-halt : {at₀ at b : ℕ} {x₀ x : S} {f : Bool} → ((c : ℕ) → 0x80 ≤ c → p c ≡ false) → Going p g s at₀ x₀ at x → b ≡ getD s at 0 → at < length s → f ≡ p b → not f ≡ true → Ate p g s at₀ x₀ at x
+  going-halt none e v l t n = ate-of none e (stops e v l t n)
+
+  pub going-end : {at₀ at : ℕ} {x₀ x : S} → ((c : ℕ) → 0x80 ≤ c → p c ≡ false) → Going p g s at₀ x₀ at x → length s ≤ at → Ate p g s at₀ x₀ at x
+  going-end none e l = ate-of none e (ends e l)
+
+-- a test that all but ASCII passes, with no state
+module _ {p : ℕ → Bool} {s : List ℕ} (all : (c : ℕ) → 0x80 ≤ c → p c ≡ true) where
+  skipped-of : {at₀ at : ℕ} → Going p keep s at₀ tt at tt → eat p keep tt (drop at₀ s) ≡ (tt, drop at s) → Place s at₀ at (skip p (left s at₀))
+  unfolding skip
+  skipped-of {at₀} {at} e h =
+      record { after = e .after; within = e .within; there = ap (λ (r : Unit {0} × List ℕ). chars (r .1)) (sym h) ∙ sym (skip-bytes p all (drop at₀ s)) }
+
+  pub skip-halt : {at₀ at b : ℕ} {f : Bool} → Going p keep s at₀ tt at tt → b ≡ getD s at 0 → at < length s → f ≡ p b → not f ≡ true → Place s at₀ at (skip p (left s at₀))
+  skip-halt e v l t n = skipped-of e (stops e v l t n)
+
+  pub skip-end : {at₀ at : ℕ} → Going p keep s at₀ tt at tt → length s ≤ at → Place s at₀ at (skip p (left s at₀))
+  skip-end e l = skipped-of e (ends e l)
+
+-- ---- an ASCII byte in a loop that decodes what is not
+pub ascii-decoded : {s : List ℕ} {at b : ℕ} → b ≡ getD s at 0 → at < length s → b < 0x80 → Decoded s at b 1
+ascii-decoded {s} {at} {b} v l h =
+    let e : first (drop at s) ≡ (b, 1) = ap first (drop-cons s at 0 l) ∙ ap (λ (a : ℕ). first (a ∷ drop (suc at) s)) (sym v) ∙ first-1 b (drop (suc at) s) (omega arith) in
+    record { code-is = ap (λ (r : ℕ × ℕ). r .0) (sym e); wide-is = ap (λ (r : ℕ × ℕ). r .1) (sym e) }
+
+module _ {S : Type 0} {p : ℕ → Bool} {g : S → ℕ → S} {s : List ℕ} {at₀ at b : ℕ} {x₀ x : S} {f : Bool} (e : Eating p g s at₀ x₀ at x) (v : b ≡ getD s at 0) (l : at < length s) (h : b < 0x80) (t : f ≡ p b) where
+  pub ascii-on : {at′ : ℕ} {x′ : S} → not f ≡ false → at′ ≡ at + 1 → x′ ≡ g x b → Eating p g s at₀ x₀ at′ x′
+  ascii-on n u w = go-on e (ascii-decoded v l h) l t n u w
+
+pub ascii-halt : {p : ℕ → Bool} {s : List ℕ} {at₀ at b : ℕ} {f : Bool} → Eating p keep s at₀ tt at tt → b ≡ getD s at 0 → at < length s → b < 0x80 → f ≡ p b → not f ≡ true → Place s at₀ at (skip p (left s at₀))
+ascii-halt e v l h t n = halt-skip e (ascii-decoded v l h) l t n
+
+pub ruleset ascii = (ascii-on, ascii-halt)

@@ -1,6 +1,6 @@
 -- The decoder's own functions, as `search` takes the laws from what a need knows: each test's answer is a flag of the code.
 -- Assumes nothing.
-use mathlib.Core.Path.{_≡_, sym, ap, _∙_}
+use mathlib.Core.Path.{_≡_, refl, sym, ap, _∙_}
 use mathlib.Core.Bool.{Bool, true, false, not}
 use mathlib.Core.List.{List, _∷_}
 use Prim.Native.Nat.{ℕ, suc, _+_, _*_, _%_, _≤_, _<_}
@@ -113,3 +113,16 @@ module _ (s : List ℕ) (at : ℕ) {code wide : ℕ} where
         r
 
 pub ruleset at-place = (decoded-past, decoded-ascii, decoded-none, decoded-over, decoded-two, decoded-three, decoded-four)
+
+-- ---- the character alone
+module _ (s : List ℕ) (at : ℕ) {code : ℕ} where
+  pub code-past : length s ≤ at → code ≡ 0 → code ≡ first (drop at s) .0
+  code-past h p = decoded-past s at {wide = 0} h p refl .code-is
+
+  pub code-ascii : at < length s → getD s at 0 < 0x80 → code ≡ getD s at 0 → code ≡ first (drop at s) .0
+  code-ascii l h p = decoded-ascii s at {wide = 1} l h p refl .code-is
+
+  pub code-wide : {wide : ℕ} → Decoded s at code wide → code ≡ first (drop at s) .0
+  code-wide d = d .code-is
+
+pub ruleset code-at = (code-past, code-ascii, code-wide)

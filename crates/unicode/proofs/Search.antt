@@ -67,18 +67,19 @@ pub record Searching (t : List ℕ) (c lo hi : ℕ) : Type 0 where
   pub within : 2 * hi ≤ length t
   pub same : halving (hi - lo) t c lo hi ≡ searched t c
 
-pub searching-none : (t : List ℕ) (c : ℕ) → Searching t c 0 (length t / 2)
+pub searching-none : (t : List ℕ) (c : ℕ) → Searching t c 0 (0 + length t / 2)
 unfolding searched
 searching-none t c =
-    let e : length t / 2 - 0 ≡ length t / 2 = omega arith in
-    record { order = omega arith; within = omega arith; same = rw e }
+    let e : 0 + length t / 2 ≡ length t / 2 = omega arith in
+    let f : length t / 2 - 0 ≡ length t / 2 = omega arith in
+    rw e (record { order = omega arith; within = omega arith; same = rw f })
 
 spare : (t : List ℕ) (c lo hi : ℕ) → lo < hi → halving (suc (hi - lo)) t c lo hi ≡ halving (hi - lo) t c lo hi
 spare t c lo hi h = enough (suc (hi - lo)) (hi - lo) t c lo hi (omega arith) (omega arith)
 
 module _ {t : List ℕ} {c lo hi : ℕ} (s : Searching t c lo hi) where
-  pub searching-below : lo < hi → c < getD t (2 * middle lo hi) 0 → Searching t c lo (middle lo hi)
-  searching-below h p =
+  go-below : lo < hi → c < getD t (2 * middle lo hi) 0 → Searching t c lo (middle lo hi)
+  go-below h p =
       record {
         order = omega arith;
         within = omega (arith, s .within);
@@ -86,8 +87,8 @@ module _ {t : List ℕ} {c lo hi : ℕ} (s : Searching t c lo hi) where
             ∙ sym (step-below (hi - lo) t c lo hi h p) ∙ spare t c lo hi h ∙ s .same;
       }
 
-  pub searching-above : lo < hi → getD t (2 * middle lo hi) 0 ≤ c → getD t (2 * middle lo hi + 1) 0 < c → Searching t c (middle lo hi + 1) hi
-  searching-above h p q =
+  go-above : lo < hi → getD t (2 * middle lo hi) 0 ≤ c → getD t (2 * middle lo hi + 1) 0 < c → Searching t c (middle lo hi + 1) hi
+  go-above h p q =
       record {
         order = omega arith;
         within = s .within;
@@ -95,12 +96,31 @@ module _ {t : List ℕ} {c lo hi : ℕ} (s : Searching t c lo hi) where
             ∙ sym (step-above (hi - lo) t c lo hi h p q) ∙ spare t c lo hi h ∙ s .same;
       }
 
-  pub searching-here : lo < hi → getD t (2 * middle lo hi) 0 ≤ c → c ≤ getD t (2 * middle lo hi + 1) 0 → true ≡ searched t c
-  searching-here h p q = sym (step-here (hi - lo) t c lo hi h p q) ∙ spare t c lo hi h ∙ s .same
+  go-here : lo < hi → getD t (2 * middle lo hi) 0 ≤ c → c ≤ getD t (2 * middle lo hi + 1) 0 → true ≡ searched t c
+  go-here h p q = sym (step-here (hi - lo) t c lo hi h p q) ∙ spare t c lo hi h ∙ s .same
 
-  pub searching-end : hi ≤ lo → false ≡ searched t c
-  searching-end h =
+  go-end : hi ≤ lo → false ≡ searched t c
+  go-end h =
       sym (step-none (hi - lo) t c lo hi h) ∙ enough (suc (hi - lo)) (hi - lo) t c lo hi (omega arith) (omega arith) ∙ s .same
+
+-- with the number of ranges for their end, as `search` takes them
+middle-is : (lo n : ℕ) → middle lo (lo + n) ≡ lo + n / 2
+middle-is lo n = omega arith
+
+module _ {t : List ℕ} {c lo : ℕ} (n : ℕ) (s : Searching t c lo (lo + n)) where
+  pub searching-below : 0 < n → c < getD t (2 * (lo + n / 2)) 0 → Searching t c lo (lo + n / 2)
+  searching-below h p = rw (← middle-is lo n) (go-below s (omega arith) (rw (middle-is lo n) p))
+
+  pub searching-above : {m : ℕ} → 0 < n → getD t (2 * (lo + n / 2)) 0 ≤ c → getD t (2 * (lo + n / 2) + 1) 0 < c → m ≡ n - n / 2 - 1 → Searching t c (lo + n / 2 + 1) (lo + n / 2 + 1 + m)
+  searching-above {m} h p q e =
+      let z : lo + n / 2 + 1 + m ≡ lo + n = omega arith in
+      rw (z, ← middle-is lo n) (go-above s (omega arith) (rw (middle-is lo n) p) (rw (middle-is lo n) q))
+
+  pub searching-here : 0 < n → getD t (2 * (lo + n / 2)) 0 ≤ c → c ≤ getD t (2 * (lo + n / 2) + 1) 0 → true ≡ searched t c
+  searching-here h p q = go-here s (omega arith) (rw (middle-is lo n) p) (rw (middle-is lo n) q)
+
+  pub searching-end : n ≤ 0 → false ≡ searched t c
+  searching-end h = go-end s (omega arith)
 
 -- ---- membership by the list of a table's ends
 unfoldable inEnds : ℕ → List ℕ → Bool

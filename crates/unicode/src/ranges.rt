@@ -12,18 +12,20 @@ pub fn in_range(lo: u8, hi: u8, b: u8) -> bool
     b <= hi
 }
 
-// Whether c lies in a range of the table: a binary search.
+// Whether c lies in a range of the table: a binary search among n ranges from lo on.
 pub fn search(table: &[u32], c: u32) -> bool
     ensures { λ r. ⌜ r ≡ searched (now (table .entry)) c ⌝ }
 {
     let mut lo: usize = 0;
-    let mut hi: usize = table.len() / 2;
-    while lo < hi {
-        let mid = lo + (hi - lo) / 2;
+    let mut n: usize = table.len() / 2;
+    while 0 < n {
+        let half = n / 2;
+        let mid = lo + half;
         if c < table[2 * mid] {
-            hi = mid;
+            n = half;
         } else if table[2 * mid + 1] < c {
             lo = mid + 1;
+            n = n - half - 1;
         } else {
             return true;
         }

@@ -2,7 +2,7 @@
 ghost use mathlib.Core.Path.{_≡_};
 ghost use Prim.Native.Nat.{ℕ, _+_, _≤_, _<_, min};
 ghost use lib.ListN.{length, getD, drop};
-ghost use Rattle.unicode.specs.Utf8.{noChar, validUpTo};
+ghost use Rattle.unicode.specs.Utf8.{first, noChar, validUpTo};
 ghost use Rattle.unicode.specs.Wide.{Reads, low, high, two, three, four};
 ghost use Rattle.unicode.specs.Text.{Decoded, Passed};
 use crate::ranges::in_range;
@@ -136,6 +136,21 @@ pub fn decode(text: &[u8], at: usize) -> Char
     decode_wide(text, at)
 }
 
+// The character at a place alone; at or past the end, 0.
+pub fn code(text: &[u8], at: usize) -> u32
+    ensures { λ r. ⌜ r ≡ first (drop at (now (text .entry))) .0 ⌝ }
+{
+    if text.len() <= at {
+        return 0;
+    }
+    let a = text[at];
+    if a < 0x80 {
+        return a as u32;
+    }
+    let d = decode_wide(text, at);
+    d.code
+}
+
 // The largest of the 32 bytes from a place on: a loop that compiles to vector instructions.
 fn top(text: &[u8], at: usize) -> u8
     requires { ⌜ at + 32 ≤ length (now text) ⌝ }
@@ -175,11 +190,15 @@ fn skip_chars(text: &[u8], from: usize, stop: usize) -> usize
 {
     let mut at = from;
     while at < stop {
-        let c = decode(text, at);
-        if NO_CHAR <= c.code {
-            return at;
+        if text[at] < 0x80 {
+            at = at + 1;
+        } else {
+            let c = decode_wide(text, at);
+            if NO_CHAR <= c.code {
+                return at;
+            }
+            at = at + c.wide;
         }
-        at = at + c.wide;
     }
     at
 }

@@ -1,7 +1,10 @@
-use mathlib.Core.Path.{refl}
-use Prim.Native.Nat.{_-_}
+use mathlib.Core.Path.{_≡_, refl}
+use mathlib.Core.List.{List}
+use Prim.Native.Nat.{ℕ, _+_, _-_, _<_}
 use native.Mathlib.Omega.{arith}
+use lib.ListN.{length, getD}
 use Rattle.unicode.specs.Text.{Passed}
+use Rattle.unicode.proofs.Reading.{decoded-ascii}
 use Rattle.unicode.proofs.Text.{decoded-fits, decoded-some}
 use Rattle.unicode.proofs.Valid.{passed-none, walk-on, walk-stop}
 use borrow.Author.Needs.{needs}
@@ -14,29 +17,45 @@ Inv-loop text from stop at₀ at = Passed text from at
 abbrev μ-loop : tie.MeasureT-loop
 μ-loop text from stop at₀ at = stop - at
 
+walk-ascii : {s : List ℕ} {from at at′ : ℕ} → Passed s from at → at < length s → getD s at 0 < 0x80 → at′ ≡ at + 1 → Passed s from at′
+walk-ascii {s} {from} {at} p l h e =
+    walk-on p (decoded-ascii s at {code = getD s at 0} {wide = 1} l h refl refl) l (omega arith) e
+
 loop-holds : tie.Need-loop-holds Inv-loop μ-loop
 loop-holds c = passed-none (search needs)
 
-decode-requires : tie.Need-decode-requires Inv-loop μ-loop
-decode-requires c κs = search needs
+shared-slice-read-if1 : tie.Need-shared-slice-read-if1 Inv-loop μ-loop
+shared-slice-read-if1 c = search needs
+
+add-at : tie.Need-add-at Inv-loop μ-loop
+add-at c = search needs
+
+loop-less : tie.Need-loop-less Inv-loop μ-loop
+loop-less c = search needs
+
+loop-again : tie.Need-loop-again Inv-loop μ-loop
+loop-again c = walk-ascii (c .before .before .before .loop .inv) (omega arith) (omega arith) refl
+
+decode-wide-requires : tie.Need-decode-wide-requires Inv-loop μ-loop
+decode-wide-requires c κs = search needs
 
 returns : tie.Need-returns Inv-loop μ-loop
 returns c =
     let d = c .before .before in
-    let l = d .before .before in
-    (l .loop .inv, λ h. walk-stop (d .decode .ensures) (omega arith) (search needs))
+    let l = d .before .before .before .before in
+    (l .loop .inv, λ h. walk-stop (d .decode-wide .ensures) (omega arith) (search needs))
 
-add-at : tie.Need-add-at Inv-loop μ-loop
-add-at c = omega (arith, decoded-fits)
+add-at-2 : tie.Need-add-at-2 Inv-loop μ-loop
+add-at-2 c = omega (arith, decoded-fits)
 
-loop-less : tie.Need-loop-less Inv-loop μ-loop
-loop-less c = omega (arith, decoded-some)
+loop-less-2 : tie.Need-loop-less-2 Inv-loop μ-loop
+loop-less-2 c = omega (arith, decoded-some)
 
-loop-again : tie.Need-loop-again Inv-loop μ-loop
-loop-again c =
+loop-again-2 : tie.Need-loop-again-2 Inv-loop μ-loop
+loop-again-2 c =
     let d = c .before .before .before in
-    let l = d .before .before in
-    walk-on (l .loop .inv) (d .decode .ensures) (omega arith) (search needs) refl
+    let l = d .before .before .before .before in
+    walk-on (l .loop .inv) (d .decode-wide .ensures) (omega arith) (search needs) refl
 
 returns-2 : tie.Need-returns-2 Inv-loop μ-loop
 returns-2 c = (c .before .loop .inv, λ h. absurd (omega arith))
@@ -48,9 +67,13 @@ skip-chars-spec =
     Inv-loop
     μ-loop
     loop-holds
-    decode-requires
-    returns
+    shared-slice-read-if1
     add-at
     loop-less
     loop-again
+    decode-wide-requires
+    returns
+    add-at-2
+    loop-less-2
+    loop-again-2
     returns-2)

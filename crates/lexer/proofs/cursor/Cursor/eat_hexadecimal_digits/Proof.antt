@@ -1,46 +1,59 @@
 use Prim.Native.Nat.{_-_}
-use native.Mathlib.Omega.{arith}
-use mathlib.Core.Bool.{false}
 use lib.ListN.{length}
-use Rattle.unicode.specs.Text.{Eating}
-use Rattle.unicode.proofs.Text.{eating, decoded-fits, decoded-some}
-use Rattle.lexer.specs.Cut.{orUnderscore, met, isHexDigit}
+use Rattle.unicode.specs.Text.{keep}
+use Rattle.unicode.proofs.Ascii.{Going}
+use Rattle.lexer.specs.Cut.{notLf, isDigit, isHexDigit, orUnderscore, met}
+use Rattle.lexer.proofs.Bytewise.{bytewise}
 use borrow.Author.Needs.{needs}
 use Rattle.lexer.proofs.cursor.Cursor.eat_hexadecimal_digits.Statement.{statement}
 use Rattle.lexer.proofs.cursor.Cursor.eat_hexadecimal_digits.Tie as tie
+use Rattle.lexer.proofs.cursor.Cursor.eat_hexadecimal_digits.Reads as reads
+use Rattle.lexer.proofs.cursor.Cursor.eat_hexadecimal_digits.Lts as lts
+use Rattle.lexer.proofs.cursor.byte.Reads as byte-reads
+use Rattle.lexer.proofs.cursor.is_hex_or_underscore.Reads as is-hex-or-underscore-reads
+use Rattle.lexer.proofs.cursor.met_hex.Reads as met-hex-reads
 
 abbrev Inv-loop : tie.InvT-loop
-Inv-loop text at₀ any₀ at any = Eating (orUnderscore isHexDigit) (met isHexDigit) text at₀ false at any
+Inv-loop text at₀ any₀ at any = Going (orUnderscore isHexDigit) (met isHexDigit) text at₀ any₀ at any
 
 abbrev μ-loop : tie.MeasureT-loop
 μ-loop text at₀ any₀ at any = length text - at
 
+-- src/cursor.rt:205:9
 loop-holds : tie.Need-loop-holds Inv-loop μ-loop
-loop-holds c = search (needs, eating)
+loop-holds c = search (needs, bytewise)
 
-decode-requires : tie.Need-decode-requires Inv-loop μ-loop
-decode-requires c κs = search (needs, eating)
+-- src/cursor.rt:206:17
+byte-requires : tie.Need-byte-requires Inv-loop μ-loop
+byte-requires c κs = search needs
 
+-- src/cursor.rt:207:17
 is-hex-or-underscore-requires : tie.Need-is-hex-or-underscore-requires Inv-loop μ-loop
-is-hex-or-underscore-requires c κs = search (needs, eating)
+is-hex-or-underscore-requires c κs = search needs
 
+-- src/cursor.rt:208:17
 returns : tie.Need-returns Inv-loop μ-loop
-returns c = search (needs, eating)
+returns c = search (needs, bytewise)
 
+-- src/cursor.rt:210:13
 met-hex-requires : tie.Need-met-hex-requires Inv-loop μ-loop
-met-hex-requires c κs = search (needs, eating)
+met-hex-requires c κs = search needs
 
+-- src/cursor.rt:211:18
 add-at : tie.Need-add-at Inv-loop μ-loop
-add-at c = omega (arith, decoded-fits)
+add-at c = search needs
 
+-- src/cursor.rt:205:9
 loop-less : tie.Need-loop-less Inv-loop μ-loop
-loop-less c = omega (arith, decoded-some)
+loop-less c = search needs
 
+-- src/cursor.rt:205:9
 loop-again : tie.Need-loop-again Inv-loop μ-loop
-loop-again c = search (needs, eating)
+loop-again c = search (needs, bytewise)
 
+-- src/cursor.rt:199:5
 returns-2 : tie.Need-returns-2 Inv-loop μ-loop
-returns-2 c = search (needs, eating)
+returns-2 c = search (needs, bytewise)
 
 pub eat-hexadecimal-digits-spec : {M : Type 1} → statement M
 eat-hexadecimal-digits-spec =
@@ -49,7 +62,7 @@ eat-hexadecimal-digits-spec =
     Inv-loop
     μ-loop
     loop-holds
-    decode-requires
+    byte-requires
     is-hex-or-underscore-requires
     returns
     met-hex-requires

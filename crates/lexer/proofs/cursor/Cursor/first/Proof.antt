@@ -1,13 +1,13 @@
-use Rattle.lexer.proofs.Steps.{first-is}
+use Rattle.lexer.proofs.Steps.{peeked}
 use borrow.Author.Needs.{needs}
 use Rattle.lexer.proofs.cursor.Cursor.first.Statement.{statement}
 use Rattle.lexer.proofs.cursor.Cursor.first.Tie as tie
 
-decode-requires : tie.Need-decode-requires
-decode-requires c κs = search needs
+code-requires : tie.Need-code-requires
+code-requires c κs = search needs
 
 returns : tie.Need-returns
-returns c = first-is (c .decode .ensures)
+returns c = search (needs, peeked)
 
 pub first-spec : {M : Type 1} → statement M
-first-spec = tie.close (tie.spec decode-requires returns)
+first-spec = tie.close (tie.spec code-requires returns)
