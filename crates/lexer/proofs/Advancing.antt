@@ -20,6 +20,9 @@ stands d l u =
     let c = decoded-point d l in
     rw u (record { order = omega (arith, c .some); within = c .within; view = c .view })
 
+pub in-front : {s : List ℕ} {at code wide next : ℕ} → Decoded s at code wide → at < length s → next ≡ at + wide → left s at ≡ code ∷ left s next
+in-front d l u = rw u (decoded-point d l .view)
+
 module _ (u : Letters) (profile : ℕ) {s : List ℕ} {at c next : ℕ} (v : Stands s at c next) where
   cuts : {kind mark end : ℕ} (a : Token) → advance u profile c (left s next) ≡ a → kind ≡ a .kind → Place s at mark (a .mark) → Place s next end (a .rest) → Cuts u profile s at kind mark end
   unfolding token
@@ -103,20 +106,20 @@ module _ (u : Letters) (profile : ℕ) {s : List ℕ} {at c next : ℕ} (v : Sta
         (rw (ne-eqb c 0x2F (z .no-slash), z .no-space, z .no-name, y .no-digit, ne-eqb c 0x23 (y .no-pound), ne-eqb c 0x40 (y .no-at), ne-eqb c 0x24 (y .no-dollar), ne-eqb (markIn marks c 0) 0 (λ x. n (o ∙ x))))
         (e ∙ o) own (rw w (record { after = omega arith; within = v .within; there = refl }))
 
-    pub cut-emoji : {b : Bool} {kind end : ℕ} → k ≡ 0 → b ≡ wideEmoji u c → b ≡ true → Place s next end (skip (goesOn u) (left s next)) → kind ≡ invalidIdent → Cuts u profile s at kind at end
+    pub cut-emoji : {b : Bool} {kind end : ℕ} → k ≡ 0 → (c ≡ 0x22 → ⊥) → b ≡ wideEmoji u c → b ≡ true → Place s next end (skip (goesOn u) (left s next)) → kind ≡ invalidIdent → Cuts u profile s at kind at end
     unfolding advance
-    cut-emoji n f t p e =
+    cut-emoji n i f t p e =
         let z = y .later in
         cuts (record { kind = invalidIdent; mark = c ∷ left s next; rest = skip (goesOn u) (left s next) })
-        (rw (ne-eqb c 0x2F (z .no-slash), z .no-space, z .no-name, y .no-digit, ne-eqb c 0x23 (y .no-pound), ne-eqb c 0x40 (y .no-at), ne-eqb c 0x24 (y .no-dollar), sym o ∙ n, ne-eqb c 0x22 (y .no-quote), sym f ∙ t))
+        (rw (ne-eqb c 0x2F (z .no-slash), z .no-space, z .no-name, y .no-digit, ne-eqb c 0x23 (y .no-pound), ne-eqb c 0x40 (y .no-at), ne-eqb c 0x24 (y .no-dollar), sym o ∙ n, ne-eqb c 0x22 i, sym f ∙ t))
         e own p
 
-    pub cut-unknown : {b : Bool} {kind end : ℕ} → k ≡ 0 → b ≡ wideEmoji u c → b ≡ false → kind ≡ unknown → end ≡ next → Cuts u profile s at kind at end
+    pub cut-unknown : {b : Bool} {kind end : ℕ} → k ≡ 0 → (c ≡ 0x22 → ⊥) → b ≡ wideEmoji u c → b ≡ false → kind ≡ unknown → end ≡ next → Cuts u profile s at kind at end
     unfolding advance
-    cut-unknown n f t e w =
+    cut-unknown n i f t e w =
         let z = y .later in
         cuts (record { kind = unknown; mark = c ∷ left s next; rest = left s next })
-        (rw (ne-eqb c 0x2F (z .no-slash), z .no-space, z .no-name, y .no-digit, ne-eqb c 0x23 (y .no-pound), ne-eqb c 0x40 (y .no-at), ne-eqb c 0x24 (y .no-dollar), sym o ∙ n, ne-eqb c 0x22 (y .no-quote), sym f ∙ t))
+        (rw (ne-eqb c 0x2F (z .no-slash), z .no-space, z .no-name, y .no-digit, ne-eqb c 0x23 (y .no-pound), ne-eqb c 0x40 (y .no-at), ne-eqb c 0x24 (y .no-dollar), sym o ∙ n, ne-eqb c 0x22 i, sym f ∙ t))
         e own (rw w (record { after = omega arith; within = v .within; there = refl }))
 
 -- what the tests before said of c
@@ -135,7 +138,7 @@ advanced l c = record { before-end = λ h. c; at-end = λ h. absurd (omega arith
 pub none-at-end : {u : Letters} {profile : ℕ} {s : List ℕ} {at kind mark end : ℕ} → length s ≤ at → kind ≡ eof → mark ≡ at → end ≡ at → Advanced u profile s at kind mark end
 none-at-end l k m e = record { before-end = λ h. absurd (omega arith); at-end = λ h. (k, m, e) }
 
-pub ruleset advancing = (stands, cut-slash, cut-space, cut-word, cut-number, cut-pound, cut-annotated, cut-hardware, cut-closed, cut-unclosed, cut-mark, cut-emoji, cut-unknown, digit-yes, digit-no, later, advanced, none-at-end)
+pub ruleset advancing = (stands, in-front, cut-slash, cut-space, cut-word, cut-number, cut-pound, cut-annotated, cut-hardware, cut-closed, cut-unclosed, cut-mark, cut-emoji, cut-unknown, digit-yes, digit-no, later, advanced, none-at-end)
 
 -- ---- what `advance_token` says of places, at every place: rules for `omega`
 module _ (u : Letters) (profile : ℕ) (s : List ℕ) (at kind mark end : ℕ) (a : Advanced u profile s at kind mark end) where

@@ -81,8 +81,8 @@ block-ascii a s h ih d =
     elim (decLe d 1) [
       | yes l ↦ v ∙ block-shut d a (chars s) l (o ∙ n) (c ∙ t) ∙ ap (λ (x : List ℕ). (true, x)) e ∙ ap (λ (r : Bool × List ℕ). (r .0, chars (r .1))) (sym (block-shut d a s l n t))
       | no m ↦
-        let l : 1 < d = omega arith in
-        v ∙ block-less d a (chars s) l (o ∙ n) (c ∙ t) ∙ ap (block (d - 1)) e ∙ ih (tail s) (tail-less s) (d - 1) ∙ ap (λ (r : Bool × List ℕ). (r .0, chars (r .1))) (sym (block-less d a s l n t))
+          let l : 1 < d = omega arith in
+          v ∙ block-less d a (chars s) l (o ∙ n) (c ∙ t) ∙ ap (block (d - 1)) e ∙ ih (tail s) (tail-less s) (d - 1) ∙ ap (λ (r : Bool × List ℕ). (r .0, chars (r .1))) (sym (block-less d a s l n t))
     ])
     (λ m. v ∙ block-on d a (chars s) (o ∙ n) (c ∙ m) ∙ ih s (omega arith) d ∙ ap (λ (r : Bool × List ℕ). (r .0, chars (r .1))) (sym (block-on d a s n m))))
 
@@ -93,13 +93,13 @@ block-bytes =
     elim (decLt a 0x80) [
       | yes h ↦ block-ascii a s h ih
       | no n ↦ λ d.
-        let w = wide a s (omega arith) in
-        let k = first (a ∷ s) .1 in
-        let t = chars (drop k (a ∷ s)) in
-        ap (block d) (chars-first (a ∷ s) (omega arith))
-        ∙ block-on d (first (a ∷ s) .0) t (no-open (first (a ∷ s) .0) (peek t) (w .code)) (no-close (first (a ∷ s) .0) (peek t) (w .code))
-        ∙ ih (drop k (a ∷ s)) (w .less) d
-        ∙ ap (λ (r : Bool × List ℕ). (r .0, chars (r .1))) (block-front k (a ∷ s) d (w .bytes) (w .within))
+          let w = wide a s (omega arith) in
+          let k = first (a ∷ s) .1 in
+          let t = chars (drop k (a ∷ s)) in
+          ap (block d) (chars-first (a ∷ s) (omega arith))
+          ∙ block-on d (first (a ∷ s) .0) t (no-open (first (a ∷ s) .0) (peek t) (w .code)) (no-close (first (a ∷ s) .0) (peek t) (w .code))
+          ∙ ih (drop k (a ∷ s)) (w .less) d
+          ∙ ap (λ (r : Bool × List ℕ). (r .0, chars (r .1))) (block-front k (a ∷ s) d (w .bytes) (w .within))
     ])
 
 -- ---- the loop: to go on from here comes to the same

@@ -303,12 +303,12 @@ module _ (a : ℕ) (s : List ℕ) (ih : (l : List ℕ) → length l ≤ length s
       elim (ℕ-discrete a 0x22) [
         | yes e ↦ alike (v ∙ quoted-shut a (chars s) e) (quoted-shut a s e) (record { closed-same = refl; bodies = same refl; rests = refl })
         | no n ↦ by-test (escapes a (peek s))
-          (λ t.
-          let x = escaped a (peek s) t in
-          let p : peek (chars s) ≡ peek s = peek-ascii s (omega (arith, x)) in
-          alike (v ∙ quoted-escape a (chars s) n (o ∙ t) ∙ rw (p, tail-same s (omega (arith, x)))) (quoted-escape a s n t)
-          (alike-more a (alike-more (peek s) (ih (tail s) (tail-less s)))))
-          (λ f. alike (v ∙ quoted-on a (chars s) n (o ∙ f)) (quoted-on a s n f) (alike-more a (ih s (omega arith))))
+            (λ t.
+            let x = escaped a (peek s) t in
+            let p : peek (chars s) ≡ peek s = peek-ascii s (omega (arith, x)) in
+            alike (v ∙ quoted-escape a (chars s) n (o ∙ t) ∙ rw (p, tail-same s (omega (arith, x)))) (quoted-escape a s n t)
+            (alike-more a (alike-more (peek s) (ih (tail s) (tail-less s)))))
+            (λ f. alike (v ∙ quoted-on a (chars s) n (o ∙ f)) (quoted-on a s n f) (alike-more a (ih s (omega arith))))
       ]
 
 quoted-bytes : (s : List ℕ) → Bytes s

@@ -79,7 +79,7 @@ peek-same (a ∷ s) k h =
     elim (decLt a 0x80) [
       | yes l ↦ rw (chars-ascii a s l)
       | no n ↦
-        rw (chars-first (a ∷ s) (omega arith), ne-eqb (first (a ∷ s) .0) k (λ e. omega (arith, wide-code a s (omega arith))), ne-eqb a k (λ e. omega arith))
+          rw (chars-first (a ∷ s) (omega arith), ne-eqb (first (a ∷ s) .0) k (λ e. omega (arith, wide-code a s (omega arith))), ne-eqb a k (λ e. omega arith))
     ]
 
 pub peek-ascii : (s : List ℕ) → peek s < 0x80 → peek (chars s) ≡ peek s

@@ -110,11 +110,11 @@ module _ (start more emoji s : List ℕ) (at : ℕ) where
     left-there h =
         elim (decLt e (length s)) [
           | yes l ↦
-            let v : left s e ≡ getD s e 0 ∷ left s (e + 1) = decoded-point (ascii-decoded refl l h) l .view in
-            (ap (skip (moreIn more)) v ∙ skip-stop (moreIn more) (getD s e 0) (left s (e + 1)) (p .stop l h) ∙ sym v, rw v h)
+              let v : left s e ≡ getD s e 0 ∷ left s (e + 1) = decoded-point (ascii-decoded refl l h) l .view in
+              (ap (skip (moreIn more)) v ∙ skip-stop (moreIn more) (getD s e 0) (left s (e + 1)) (p .stop l h) ∙ sym v, rw v h)
           | no n ↦
-            let z : left s e ≡ [] = left-end s e (omega arith) in
-            (ap (skip (moreIn more)) z ∙ skip-nil (moreIn more) ∙ sym z, rw z (omega arith))
+              let z : left s e ≡ [] = left-end s e (omega arith) in
+              (ap (skip (moreIn more)) z ∙ skip-nil (moreIn more) ∙ sym z, rw z (omega arith))
         ]
 
     pub name-ascii : {b kind : ℕ} → b ≡ getD s e 0 → b < 0x80 → kind ≡ ident → Parted (name (lent start more emoji)) s at kind e

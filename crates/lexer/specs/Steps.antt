@@ -67,14 +67,13 @@ pub record Later (u : Letters) (c : ℕ) : Type 0 where
   pub no-space : isWhitespace c ≡ false
   pub no-name : u .start c ≡ false
 
--- nor a number, a pragma, an annotation, a hardware identifier or a quoted text
+-- nor a number, a pragma, an annotation or a hardware identifier
 pub record Single (u : Letters) (c : ℕ) : Type 0 where
   pub later : Later u c
   pub no-digit : isDigit c ≡ false
   pub no-pound : (c ≡ 0x23 → ⊥)
   pub no-at : (c ≡ 0x40 → ⊥)
   pub no-dollar : (c ≡ 0x24 → ⊥)
-  pub no-quote : (c ≡ 0x22 → ⊥)
 
 -- ---- a token at a place before the end: its kind, the place where its suffix starts (its own, where it has none), and its end
 pub record Cuts (u : Letters) (profile : ℕ) (s : List ℕ) (at kind mark end : ℕ) : Type 0 where

@@ -1,6 +1,6 @@
 // The token at a place: decided by its first character, in the order of the tests.
 ghost use mathlib.Core.Path.{_≡_};
-ghost use mathlib.Core.Bool.{true};
+ghost use mathlib.Core.Bool.{true, false};
 ghost use Prim.Native.Nat.{_<_};
 ghost use lib.ListN.{length};
 ghost use Rattle.lexer.specs.Cut.{isDigit};
@@ -63,43 +63,6 @@ fn mark_of(c: u32) -> u32
     }
 }
 
-// A single mark, an identifier that begins with an emoji, or an unknown character.
-fn single(
-    text: &[u8],
-    at: usize,
-    c: u32,
-    next: Cursor,
-    profile: u32,
-    start: &[u32],
-    more: &[u32],
-    emoji: &[u32],
-) -> Piece
-    requires { ⌜ (Stands (now text) at c (next .at)) × (Single (lent (now start) (now more) (now emoji)) c) ⌝ }
-    ensures { λ r. ⌜ Cuts (lent (now (start .entry)) (now (more .entry)) (now (emoji .entry))) profile (now (text .entry)) at (r .kind) (r .mark) (r .end) ⌝ }
-{
-    let k = mark_of(c);
-    if k != 0 {
-        return Piece {
-            kind: k,
-            mark: at,
-            end: next.at,
-        };
-    }
-    if is_wide_emoji(start, more, emoji, c) {
-        let fake = next.eat_fake(text, start, more, emoji);
-        return Piece {
-            kind: kinds::INVALID_IDENT,
-            mark: at,
-            end: fake.at,
-        };
-    }
-    Piece {
-        kind: kinds::UNKNOWN,
-        mark: at,
-        end: next.at,
-    }
-}
-
 // A quoted text, behind its quote.
 fn string(
     text: &[u8],
@@ -153,6 +116,83 @@ fn numeral(
     }
 }
 
+// A single mark, a quoted text, an identifier that begins with an emoji, or an unknown character.
+fn single(
+    text: &[u8],
+    at: usize,
+    c: u32,
+    next: Cursor,
+    profile: u32,
+    start: &[u32],
+    more: &[u32],
+    emoji: &[u32],
+) -> Piece
+    requires { ⌜ (Stands (now text) at c (next .at)) × (Single (lent (now start) (now more) (now emoji)) c) ⌝ }
+    ensures { λ r. ⌜ Cuts (lent (now (start .entry)) (now (more .entry)) (now (emoji .entry))) profile (now (text .entry)) at (r .kind) (r .mark) (r .end) ⌝ }
+{
+    let k = mark_of(c);
+    if k != 0 {
+        return Piece {
+            kind: k,
+            mark: at,
+            end: next.at,
+        };
+    }
+    if c == 0x22 {
+        return string(text, at, c, next, profile, start, more, emoji);
+    }
+    if is_wide_emoji(start, more, emoji, c) {
+        let fake = next.eat_fake(text, start, more, emoji);
+        return Piece {
+            kind: kinds::INVALID_IDENT,
+            mark: at,
+            end: fake.at,
+        };
+    }
+    Piece {
+        kind: kinds::UNKNOWN,
+        mark: at,
+        end: next.at,
+    }
+}
+
+// What begins with an at sign or a dollar sign, and what is left.
+fn sigil(
+    text: &[u8],
+    at: usize,
+    c: u32,
+    next: Cursor,
+    profile: u32,
+    start: &[u32],
+    more: &[u32],
+    emoji: &[u32],
+) -> Piece
+    requires { ⌜ (Stands (now text) at c (next .at)) × (Later (lent (now start) (now more) (now emoji)) c) × (isDigit c ≡ false) × (c ≡ 0x23 → ⊥) ⌝ }
+    ensures { λ r. ⌜ Cuts (lent (now (start .entry)) (now (more .entry)) (now (emoji .entry))) profile (now (text .entry)) at (r .kind) (r .mark) (r .end) ⌝ }
+{
+    match c {
+        0x40 => {
+            let p = annotation(text, next, start, more, emoji);
+            return Piece {
+                kind: p.kind,
+                mark: at,
+                end: p.at,
+            };
+        }
+        0x24 => {
+            let p = hardware_ident(text, next, start, more, emoji);
+            return Piece {
+                kind: p.kind,
+                mark: at,
+                end: p.at,
+            };
+        }
+        _ => {
+            return single(text, at, c, next, profile, start, more, emoji);
+        }
+    }
+}
+
 // What begins neither a comment, nor white space, nor an identifier.
 fn other(
     text: &[u8],
@@ -170,38 +210,15 @@ fn other(
     if is_digit(c) {
         return numeral(text, at, c, next, profile, start, more, emoji);
     }
-    match c {
-        0x23 => {
-            let p = pound(text, next);
-            return Piece {
-                kind: p.kind,
-                mark: at,
-                end: p.at,
-            };
-        }
-        0x40 => {
-            let p = annotation(text, next, start, more, emoji);
-            return Piece {
-                kind: p.kind,
-                mark: at,
-                end: p.at,
-            };
-        }
-        0x24 => {
-            let p = hardware_ident(text, next, start, more, emoji);
-            return Piece {
-                kind: p.kind,
-                mark: at,
-                end: p.at,
-            };
-        }
-        0x22 => {
-            return string(text, at, c, next, profile, start, more, emoji);
-        }
-        _ => {
-            return single(text, at, c, next, profile, start, more, emoji);
-        }
+    if c == 0x23 {
+        let p = pound(text, next);
+        return Piece {
+            kind: p.kind,
+            mark: at,
+            end: p.at,
+        };
     }
+    sigil(text, at, c, next, profile, start, more, emoji)
 }
 
 // The token at a place before the end.
@@ -217,9 +234,8 @@ fn advance(
     ensures { λ r. ⌜ Cuts (lent (now (start .entry)) (now (more .entry)) (now (emoji .entry))) profile (now (text .entry)) at (r .kind) (r .mark) (r .end) ⌝ }
 {
     let d = decode(text, at);
-    let c = d.code;
     let next = Cursor { at: at + d.wide };
-    if c == 0x2F {
+    if d.code == 0x2F {
         let p = slash(text, next);
         return Piece {
             kind: p.kind,
@@ -227,7 +243,7 @@ fn advance(
             end: p.at,
         };
     }
-    if is_whitespace(c) {
+    if is_whitespace(d.code) {
         let end = next.eat_whitespace(text);
         return Piece {
             kind: kinds::WHITESPACE,
@@ -235,15 +251,24 @@ fn advance(
             end: end.at,
         };
     }
-    if is_id_start_in(start, c) {
-        let p = ident_or_unknown_prefix(text, Cursor { at }, c, next, profile, start, more, emoji);
+    if is_id_start_in(start, d.code) {
+        let p = ident_or_unknown_prefix(
+            text,
+            Cursor { at },
+            d.code,
+            next,
+            profile,
+            start,
+            more,
+            emoji,
+        );
         return Piece {
             kind: p.kind,
             mark: at,
             end: p.at,
         };
     }
-    other(text, at, c, next, profile, start, more, emoji)
+    other(text, at, d.code, next, profile, start, more, emoji)
 }
 
 // The token at any place, over tables of the letters that are lent; at or past the end there is none.

@@ -6,6 +6,7 @@ use mathlib.Core.Path.{_≡_, refl, ap, sym, _∙_}
 use mathlib.Core.List.{List, [], _∷_}
 use lib.ListN.{length, getD}
 use borrow.Author.Tests.{ne-eqb}
+use Rattle.lists.specs.All.{all}
 use Rattle.lists.specs.Cut.{pieces, cut}
 use Rattle.lists.specs.Eat.{eat}
 use Rattle.unicode.specs.Ranges.{inTable}
@@ -15,11 +16,11 @@ use Rattle.unicode.specs.Text.{bytes, skip}
 use Rattle.text.specs.Answer.{checkText, checkCut}
 use Rattle.lexer.specs.Chars.{whitespace}
 use Rattle.lexer.specs.Kinds.{marks, markIn}
-use Rattle.lexer.specs.Cut.{notLf, isDigit, isHexDigit, slash, digits, exponent, exponentOf, point, fraction, based, number, isUnit, quoted, agree, identifier, suffix, advance, piece, tokens, flat}
+use Rattle.lexer.specs.Cut.{notLf, isDigit, isHexDigit, block, slash, digits, exponent, exponentOf, point, fraction, based, number, isUnit, quoted, withoutLf, twice, quoteKind, agree, identifier, suffix, advance, piece, tokens, flat}
 use Rattle.lexer.specs.Unicode.{unicode}
 use Rattle.lexer.specs.Outcome.{tokensOf, outcome, listed, Listed}
 
--- ---- four texts: a semicolon, a comma, two semicolons, and 1.e5; with room for two records
+-- ---- texts: a semicolon, a comma, two semicolons, 1.e5; a NUL in a line comment, a block comment and a quoted text
 abbrev semicolon : List ℕ
 semicolon = 0x3B ∷ []
 
@@ -32,10 +33,20 @@ semicolons = 0x3B ∷ 0x3B ∷ []
 abbrev point-e : List ℕ
 point-e = 0x31 ∷ 0x2E ∷ 0x65 ∷ 0x35 ∷ []
 
+abbrev line-nul : List ℕ
+line-nul = 0x2F ∷ 0x2F ∷ 0x00 ∷ 0x3B ∷ []
+
+abbrev block-nul : List ℕ
+block-nul = 0x2F ∷ 0x2A ∷ 0x00 ∷ 0x2A ∷ 0x2F ∷ []
+
+abbrev quote-nul : List ℕ
+quote-nul = 0x22 ∷ 0x00 ∷ 0x22 ∷ []
+
+-- room for two records
 abbrev room : List ℕ
 room = 7 ∷ 7 ∷ 7 ∷ 7 ∷ 7 ∷ 7 ∷ []
 
--- what the promise leaves of each: number, also, and the list
+-- what the promise leaves of each under profile 0: number, also, and the list
 abbrev Only : List ℕ → List ℕ → ℕ → ℕ → List ℕ → Type 0
 Only text list number also after = (outcome text 0 (length list) ≡ (number, also)) × (listed text 0 list ≡ after)
 
@@ -44,8 +55,12 @@ leaves :
     × (Only comma room 0 1 (11 ∷ 1 ∷ 0 ∷ 7 ∷ 7 ∷ 7 ∷ []))
     × (Only semicolons room 0 2 (10 ∷ 1 ∷ 0 ∷ 10 ∷ 1 ∷ 0 ∷ []))
     × (Only point-e room 0 1 (52 ∷ 4 ∷ 2 ∷ 7 ∷ 7 ∷ 7 ∷ []))
-unfolding pieces cut eat inTable xidStart xidContinue emoji table behind begins joined readBy first next chars width goodBytes validUpTo bytes skip checkText checkCut whitespace marks markIn unicode tokensOf outcome listed notLf isDigit isHexDigit slash digits exponent exponentOf point fraction based number isUnit quoted agree identifier suffix advance piece tokens flat
-leaves = ((refl, refl), (refl, refl), (refl, refl), (refl, refl))
+    × (Only semicolons (7 ∷ 7 ∷ 7 ∷ 7 ∷ 7 ∷ []) 4 2 (7 ∷ 7 ∷ 7 ∷ 7 ∷ 7 ∷ []))
+    × (Only line-nul room 0 1 (1 ∷ 4 ∷ 0 ∷ 7 ∷ 7 ∷ 7 ∷ []))
+    × (Only block-nul room 0 1 (2 ∷ 5 ∷ 0 ∷ 7 ∷ 7 ∷ 7 ∷ []))
+    × (Only quote-nul room 0 1 (57 ∷ 3 ∷ 3 ∷ 7 ∷ 7 ∷ 7 ∷ []))
+unfolding all pieces cut eat inTable xidStart xidContinue emoji table behind begins joined readBy first next chars width goodBytes validUpTo bytes skip checkText checkCut whitespace marks markIn unicode tokensOf outcome listed notLf isDigit isHexDigit block slash digits exponent exponentOf point fraction based number isUnit quoted withoutLf twice quoteKind agree identifier suffix advance piece tokens flat
+leaves = ((refl, refl), (refl, refl), (refl, refl), (refl, refl), (refl, refl), (refl, refl), (refl, refl), (refl, refl))
 
 -- an exponent for 1.e5, so that no suffix is left
 pub rules-out-exponent : {n a : ℕ} → Listed point-e 0 room n a (52 ∷ 4 ∷ 4 ∷ 7 ∷ 7 ∷ 7 ∷ []) → ⊥
@@ -63,6 +78,16 @@ rules-out-rest-unknown p = let e : _≡_ {A = ℕ} 37 10 = ap (λ (x : List ℕ)
 -- a number of records that is not the list's
 pub rules-out-invented-number : {n : ℕ} {l : List ℕ} → Listed semicolon 0 room n 2 l → ⊥
 rules-out-invented-number p = let e : _≡_ {A = ℕ} 2 1 = p .answer .also-is ∙ ap (λ (x : ℕ × ℕ). x .1) (leaves .0 .0) in omega arith
+
+-- a need off by one: two semicolons need two records, and a list of one record and a part of another has not the room
+pub rules-out-other-need : {n a : ℕ} {l : List ℕ} → Listed semicolons 0 (7 ∷ 7 ∷ 7 ∷ 7 ∷ 7 ∷ []) n a l → (n ≡ 4) × (a ≡ 2)
+rules-out-other-need p =
+    (p .answer .number-is ∙ ap (λ (x : ℕ × ℕ). x .0) (leaves .4 .0), p .answer .also-is ∙ ap (λ (x : ℕ × ℕ). x .1) (leaves .4 .0))
+
+-- a NUL that ends a comment or a quoted text: each of the three is one token
+pub rules-out-nul-ending : {n a : ℕ} {l : List ℕ} → (Listed line-nul 0 room n a l → a ≡ 1) × (Listed block-nul 0 room n a l → a ≡ 1) × (Listed quote-nul 0 room n a l → a ≡ 1)
+rules-out-nul-ending =
+    (λ p. p .answer .also-is ∙ ap (λ (x : ℕ × ℕ). x .1) (leaves .5 .0), λ p. p .answer .also-is ∙ ap (λ (x : ℕ × ℕ). x .1) (leaves .6 .0), λ p. p .answer .also-is ∙ ap (λ (x : ℕ × ℕ). x .1) (leaves .7 .0))
 
 -- every text refused
 pub rules-out-refusing : {n a : ℕ} {l : List ℕ} → Listed semicolon 0 room n a l → n ≡ 0

@@ -1,17 +1,17 @@
 -- The binary search: each step of it, for every list; and on a list that rises, that it is membership, for every table at once.
 -- Assumes nothing.
-use mathlib.Core.Path.{_≡_, refl, sym, _∙_}
-use mathlib.Core.Bool.{Bool, true, false, _&&_, _||_}
+use mathlib.Core.Path.{_≡_, refl, ap, sym, _∙_}
+use mathlib.Core.Bool.{Bool, true, false, cond, _&&_, _||_}
 use mathlib.Core.List.{List, [], _∷_}
 use Prim.Native.Nat.{ℕ, zero, suc, _+_, _-_, _*_, _/_, _≤_, _<_}
 use native.Mathlib.Decide.{decLt}
 use native.Mathlib.Omega.{arith}
-use lib.Dec.{leb}
+use lib.Dec.{leb, ltb}
 use lib.ListN.{length, getD}
-use borrow.Author.Tests.{lt-ltb, le-ltb, le-leb, leb-true}
-use Rattle.lists.proofs.Bools.{or-true}
+use borrow.Author.Tests.{lt-ltb, le-ltb, le-leb, leb-true, ltb-true}
+use Rattle.lists.proofs.Bools.{by-test, and-false, or-true}
 use Rattle.unicode.specs.Ranges.{Range, _to_, inTable, flat}
-use Rattle.unicode.specs.Search.{middle, halving, searched}
+use Rattle.unicode.specs.Search.{middle, halving, among, searched}
 use Rattle.unicode.specs.Order.{Sorted}
 
 -- ---- the steps
@@ -67,12 +67,29 @@ pub record Searching (t : List ℕ) (c lo hi : ℕ) : Type 0 where
   pub within : 2 * hi ≤ length t
   pub same : halving (hi - lo) t c lo hi ≡ searched t c
 
-pub searching-none : (t : List ℕ) (c : ℕ) → Searching t c 0 (0 + length t / 2)
+-- how many ranges it begins with
+module _ (t : List ℕ) (c : ℕ) {n : ℕ} (e : n ≡ length t / 2) where
+  pub among-few : n ≤ 32 → n ≡ among t c
+  among-few h = e ∙ rw (le-ltb 32 (length t / 2) (omega arith))
+
+  pub among-first : 32 < n → c < getD t 64 0 → 32 ≡ among t c
+  among-first h k = rw (lt-ltb 32 (length t / 2) (omega arith), lt-ltb c (getD t 64 0) k)
+
+  pub among-all : 32 < n → getD t 64 0 ≤ c → n ≡ among t c
+  among-all h k = e ∙ rw (le-ltb c (getD t 64 0) k) (sym (ap (λ (b : Bool). cond b 32 (length t / 2)) (and-false (ltb 32 (length t / 2)))))
+
+among-most : (t : List ℕ) (c : ℕ) → 2 * among t c ≤ length t
+among-most t c =
+    by-test (ltb 32 (length t / 2))
+    (λ h. by-test (ltb c (getD t 64 0)) (λ k. rw (h, k) (omega (arith, ltb-true 32 (length t / 2) h))) (λ k. rw (h, k) (omega arith)))
+    (λ h. rw h (omega arith))
+
+pub searching-none : (t : List ℕ) (c : ℕ) {n : ℕ} → n ≡ among t c → Searching t c 0 (0 + n)
 unfolding searched
-searching-none t c =
-    let e : 0 + length t / 2 ≡ length t / 2 = omega arith in
-    let f : length t / 2 - 0 ≡ length t / 2 = omega arith in
-    rw e (record { order = omega arith; within = omega arith; same = rw f })
+searching-none t c {n} e =
+    let z : 0 + n ≡ among t c = omega arith in
+    let f : among t c - 0 ≡ among t c = omega arith in
+    rw z (record { order = omega arith; within = among-most t c; same = rw f })
 
 spare : (t : List ℕ) (c lo hi : ℕ) → lo < hi → halving (suc (hi - lo)) t c lo hi ≡ halving (hi - lo) t c lo hi
 spare t c lo hi h = enough (suc (hi - lo)) (hi - lo) t c lo hi (omega arith) (omega arith)
@@ -198,11 +215,23 @@ module _ (t : List ℕ) (c : ℕ) (s : Sorted t) where
       (λ p q r. step-above n t c lo hi p q r ∙ bracketed n (middle lo hi + 1) hi (omega arith) (up lo hi b p r))
       (λ p q r. step-here n t c lo hi p q r ∙ sym (hit t c (middle lo hi) (omega (arith, b .hi-le)) q r))
 
+-- the ranges that are left out at the outset begin above c
+outset : (t : List ℕ) (c : ℕ) → Sorted t → Bracket t c 0 (among t c)
+unfolding Sorted
+outset t c s =
+    record {
+      hi-le = among-most t c;
+      below = λ k h. absurd (omega arith);
+      above = by-test (ltb 32 (length t / 2))
+          (λ h. by-test (ltb c (getD t 64 0))
+          (λ i. rw (h, i) (λ k g l. omega (arith, ltb-true c (getD t 64 0) i, s 64 (2 * k) (omega arith) (omega arith))))
+          (λ i. rw (h, i) (λ k g l. absurd (omega arith))))
+          (λ h. rw h (λ k g l. absurd (omega arith)));
+    }
+
 -- the search in a table whose ends are sorted is membership
 pub searched-is : (t : List Range) (c : ℕ) → Sorted (flat t) → searched (flat t) c ≡ inTable c t
 unfolding searched
 searched-is t c s =
     let l = flat t in
-    bracketed l c s (length l / 2) 0 (length l / 2) (omega arith)
-    (record { hi-le = omega arith; below = λ k h. absurd (omega arith); above = λ k h m. absurd (omega arith) })
-    ∙ by-ends c t
+    bracketed l c s (among l c) 0 (among l c) (omega arith) (outset l c s) ∙ by-ends c t

@@ -1,7 +1,7 @@
 -- A binary search in a list of numbers that are to be the ends of ranges in turn: what it answers on any list, sorted or not.
 -- On a table's own list that is membership in the table (`proofs/Search.antt`).
 -- Assumes nothing.
-use mathlib.Core.Bool.{Bool, true, false}
+use mathlib.Core.Bool.{Bool, true, false, cond, _&&_}
 use mathlib.Core.List.{List}
 use Prim.Native.Nat.{ℕ, zero, suc, _+_, _-_, _*_, _/_}
 use lib.Dec.{ltb}
@@ -26,6 +26,9 @@ halving (suc n) t c lo hi =
       | false ↦ false
     ]
 
--- in the whole list
+-- how many ranges are searched: the first 32 where c lies below the next, else all
+abbrev pub among : List ℕ → ℕ → ℕ
+among t c = cond (ltb 32 (length t / 2) && ltb c (getD t 64 0)) 32 (length t / 2)
+
 unfoldable pub searched : List ℕ → ℕ → Bool
-searched t c = halving (length t / 2) t c 0 (length t / 2)
+searched t c = halving (among t c) t c 0 (among t c)

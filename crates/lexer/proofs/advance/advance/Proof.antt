@@ -1,5 +1,5 @@
 use native.Mathlib.Omega.{arith}
-use Rattle.unicode.proofs.Text.{decoded-fits, decoded-point}
+use Rattle.unicode.proofs.Text.{decoded-fits}
 use Rattle.lexer.proofs.Advancing.{advancing}
 use borrow.Author.Needs.{needs}
 use Rattle.lexer.proofs.advance.advance.Statement.{statement}
@@ -8,8 +8,8 @@ use Rattle.lexer.proofs.advance.advance.Tie as tie
 decode-requires : tie.Need-decode-requires
 decode-requires c κs = search (needs, advancing)
 
-add-t13 : tie.Need-add-t13
-add-t13 c = omega (arith, decoded-fits)
+add-t12 : tie.Need-add-t12
+add-t12 c = omega (arith, decoded-fits)
 
 slash-requires : tie.Need-slash-requires
 slash-requires c κs = omega (arith, decoded-fits)
@@ -30,8 +30,7 @@ is-id-start-in-requires : tie.Need-is-id-start-in-requires
 is-id-start-in-requires c κs = search (needs, advancing)
 
 ident-or-unknown-prefix-requires : tie.Need-ident-or-unknown-prefix-requires
-ident-or-unknown-prefix-requires c κs =
-    (omega arith, omega (arith, decoded-fits), decoded-point (c .before .before .before .before .before .before .decode .ensures) (search needs) .view)
+ident-or-unknown-prefix-requires c κs = (omega arith, omega (arith, decoded-fits), search (needs, advancing))
 
 returns-3 : tie.Need-returns-3
 returns-3 c = search (needs, advancing)
@@ -47,7 +46,7 @@ advance-spec =
     tie.close
     (tie.spec
     decode-requires
-    add-t13
+    add-t12
     slash-requires
     returns
     is-whitespace-requires

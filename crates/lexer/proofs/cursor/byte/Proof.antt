@@ -5,22 +5,16 @@ use lib.ListN.{List·getD-eq-default}
 use borrow.Author.Needs.{needs}
 use Rattle.lexer.proofs.cursor.byte.Statement.{statement}
 use Rattle.lexer.proofs.cursor.byte.Tie as tie
-use Rattle.lexer.proofs.cursor.byte.Reads as reads
-use Rattle.lexer.proofs.cursor.byte.Lts as lts
 
--- src/cursor.rt:33:17
 shared-slice-read-b : tie.Need-shared-slice-read-b
 shared-slice-read-b c = search needs
 
--- src/cursor.rt:34:16
 cast-result : tie.Need-cast-result
 cast-result c = omega (arith, c .shared-slice-known .given (c .before .before .args .at))
 
--- src/cursor.rt:34:9
 returns : tie.Need-returns
 returns c = search needs
 
--- src/cursor.rt:29:1
 returns-2 : tie.Need-returns-2
 returns-2 c = sym (List·getD-eq-default (now (c .before .args .text)) 0 (c .if1 .left))
 

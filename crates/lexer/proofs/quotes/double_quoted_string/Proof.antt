@@ -1,17 +1,9 @@
 use Prim.Native.Nat.{_-_}
-use native.Mathlib.Omega.{arith}
 use lib.ListN.{length}
 use Rattle.lexer.proofs.Bodies.{Quoting, quoting}
 use borrow.Author.Needs.{needs}
 use Rattle.lexer.proofs.quotes.double_quoted_string.Statement.{statement}
 use Rattle.lexer.proofs.quotes.double_quoted_string.Tie as tie
-use Rattle.lexer.proofs.quotes.double_quoted_string.Reads as reads
-use Rattle.lexer.proofs.quotes.double_quoted_string.Lts as lts
-use Rattle.lexer.proofs.cursor.byte.Reads as byte-reads
-use Rattle.lexer.proofs.quotes.add.Reads as add-reads
-use Rattle.lexer.proofs.quotes.is_bits.Reads as is-bits-reads
-use Rattle.lexer.proofs.quotes.is_escape.Reads as is-escape-reads
-use Rattle.lexer.proofs.quotes.quote_kind.Reads as quote-kind-reads
 
 abbrev Inv-loop : tie.InvT-loop
 Inv-loop text at₀ body₀ at body = Quoting text at₀ at (body .plain) (body .lines) (body .twice) (body .prev)
@@ -19,83 +11,63 @@ Inv-loop text at₀ body₀ at body = Quoting text at₀ at (body .plain) (body 
 abbrev μ-loop : tie.MeasureT-loop
 μ-loop text at₀ body₀ at body = length text - at
 
--- src/quotes.rt:151:5
 loop-holds : tie.Need-loop-holds Inv-loop μ-loop
 loop-holds c = search (needs, quoting)
 
--- src/quotes.rt:152:13
 byte-requires : tie.Need-byte-requires Inv-loop μ-loop
 byte-requires c κs = search needs
 
--- src/quotes.rt:154:17
 is-bits-requires : tie.Need-is-bits-requires Inv-loop μ-loop
 is-bits-requires c κs = search needs
 
--- src/quotes.rt:155:17
 quote-kind-requires : tie.Need-quote-kind-requires Inv-loop μ-loop
 quote-kind-requires c κs = search needs
 
--- src/quotes.rt:159:21
 add-t12 : tie.Need-add-t12 Inv-loop μ-loop
 add-t12 c = search needs
 
--- src/quotes.rt:156:13
 returns : tie.Need-returns Inv-loop μ-loop
 returns c = search (needs, quoting)
 
--- src/quotes.rt:162:9
 add-requires : tie.Need-add-requires Inv-loop μ-loop
 add-requires c κs = search needs
 
--- src/quotes.rt:163:12
 is-escape-requires : tie.Need-is-escape-requires Inv-loop μ-loop
 is-escape-requires c κs = search needs
 
--- src/quotes.rt:164:41
 add-byte : tie.Need-add-byte Inv-loop μ-loop
 add-byte c = search needs
 
--- src/quotes.rt:164:30
 byte-requires-2 : tie.Need-byte-requires-2 Inv-loop μ-loop
 byte-requires-2 c κs = search needs
 
--- src/quotes.rt:164:13
 add-requires-2 : tie.Need-add-requires-2 Inv-loop μ-loop
 add-requires-2 c κs = search needs
 
--- src/quotes.rt:165:18
 add-at : tie.Need-add-at Inv-loop μ-loop
 add-at c = search needs
 
--- src/quotes.rt:151:5
 loop-less : tie.Need-loop-less Inv-loop μ-loop
 loop-less c = search needs
 
--- src/quotes.rt:151:5
 loop-again : tie.Need-loop-again Inv-loop μ-loop
 loop-again c = search (needs, quoting)
 
--- src/quotes.rt:167:18
 add-at-2 : tie.Need-add-at-2 Inv-loop μ-loop
 add-at-2 c = search needs
 
--- src/quotes.rt:151:5
 loop-less-2 : tie.Need-loop-less-2 Inv-loop μ-loop
 loop-less-2 c = search needs
 
--- src/quotes.rt:151:5
 loop-again-2 : tie.Need-loop-again-2 Inv-loop μ-loop
 loop-again-2 c = search (needs, quoting)
 
--- src/quotes.rt:170:9
 is-bits-requires-2 : tie.Need-is-bits-requires-2 Inv-loop μ-loop
 is-bits-requires-2 c κs = search needs
 
--- src/quotes.rt:171:9
 quote-kind-requires-2 : tie.Need-quote-kind-requires-2 Inv-loop μ-loop
 quote-kind-requires-2 c κs = search needs
 
--- src/quotes.rt:140:1
 returns-2 : tie.Need-returns-2 Inv-loop μ-loop
 returns-2 c = search (needs, quoting)
 

@@ -3,8 +3,6 @@ use Rattle.unicode.proofs.Search.{Searching, searching-none, searching-
 use borrow.Author.Needs.{needs}
 use Rattle.unicode.proofs.ranges.search.Statement.{statement}
 use Rattle.unicode.proofs.ranges.search.Tie as tie
-use Rattle.unicode.proofs.ranges.search.Reads as reads
-use Rattle.unicode.proofs.ranges.search.Lts as lts
 
 ruleset steps = (searching-none, searching-below, searching-above, searching-here, searching-end)
 
@@ -14,75 +12,60 @@ Inv-loop table c lo₀ n₀ lo n = Searching table c lo (lo + n)
 abbrev μ-loop : tie.MeasureT-loop
 μ-loop table c lo₀ n₀ lo n = n
 
--- src/ranges.rt:21:5
+among-requires : tie.Need-among-requires Inv-loop μ-loop
+among-requires c κs = search needs
+
 loop-holds : tie.Need-loop-holds Inv-loop μ-loop
 loop-holds c = search (needs, steps)
 
--- src/ranges.rt:23:19
 add-mid : tie.Need-add-mid Inv-loop μ-loop
 add-mid c = search needs
 
--- src/ranges.rt:24:22
 mul-if1 : tie.Need-mul-if1 Inv-loop μ-loop
 mul-if1 c = search needs
 
--- src/ranges.rt:24:16
 mul-if1-2 : tie.Need-mul-if1-2 Inv-loop μ-loop
 mul-if1-2 c = search needs
 
--- src/ranges.rt:24:16
 shared-slice-read-if1 : tie.Need-shared-slice-read-if1 Inv-loop μ-loop
 shared-slice-read-if1 c = search needs
 
--- src/ranges.rt:21:5
 loop-less : tie.Need-loop-less Inv-loop μ-loop
 loop-less c = search needs
 
--- src/ranges.rt:21:5
 loop-again : tie.Need-loop-again Inv-loop μ-loop
 loop-again c = search (needs, steps)
 
--- src/ranges.rt:26:25
 mul-if2 : tie.Need-mul-if2 Inv-loop μ-loop
 mul-if2 c = search needs
 
--- src/ranges.rt:26:25
 add-if2 : tie.Need-add-if2 Inv-loop μ-loop
 add-if2 c = search needs
 
--- src/ranges.rt:26:19
 mul-if2-2 : tie.Need-mul-if2-2 Inv-loop μ-loop
 mul-if2-2 c = search needs
 
--- src/ranges.rt:26:19
 shared-slice-read-if2 : tie.Need-shared-slice-read-if2 Inv-loop μ-loop
 shared-slice-read-if2 c = search needs
 
--- src/ranges.rt:27:18
 add-lo : tie.Need-add-lo Inv-loop μ-loop
 add-lo c = search needs
 
--- src/ranges.rt:28:17
 sub-n : tie.Need-sub-n Inv-loop μ-loop
 sub-n c = search needs
 
--- src/ranges.rt:28:17
 sub-n-2 : tie.Need-sub-n-2 Inv-loop μ-loop
 sub-n-2 c = search needs
 
--- src/ranges.rt:21:5
 loop-less-2 : tie.Need-loop-less-2 Inv-loop μ-loop
 loop-less-2 c = search needs
 
--- src/ranges.rt:21:5
 loop-again-2 : tie.Need-loop-again-2 Inv-loop μ-loop
 loop-again-2 c = search (needs, steps)
 
--- src/ranges.rt:30:13
 returns : tie.Need-returns Inv-loop μ-loop
 returns c = search (needs, steps)
 
--- src/ranges.rt:16:1
 returns-2 : tie.Need-returns-2 Inv-loop μ-loop
 returns-2 c = search (needs, steps)
 
@@ -92,6 +75,7 @@ search-spec =
     (tie.spec
     Inv-loop
     μ-loop
+    among-requires
     loop-holds
     add-mid
     mul-if1

@@ -8,10 +8,6 @@ use Rattle.lexer.proofs.Bytewise.{running}
 use borrow.Author.Needs.{needs}
 use Rattle.lexer.proofs.cursor.Cursor.eat_ascii_continue.Statement.{statement}
 use Rattle.lexer.proofs.cursor.Cursor.eat_ascii_continue.Tie as tie
-use Rattle.lexer.proofs.cursor.Cursor.eat_ascii_continue.Reads as reads
-use Rattle.lexer.proofs.cursor.Cursor.eat_ascii_continue.Lts as lts
-use Rattle.lexer.proofs.cursor.byte.Reads as byte-reads
-use Rattle.unicode.proofs.properties.is_xid_continue_in.Reads as is-xid-continue-in-reads
 
 abbrev Inv-loop : tie.InvT-loop
 Inv-loop text more at₀ at = Eating (moreIn more) keep text at₀ tt at tt
@@ -19,39 +15,30 @@ Inv-loop text more at₀ at = Eating (moreIn more) keep text at₀ tt at tt
 abbrev μ-loop : tie.MeasureT-loop
 μ-loop text more at₀ at = length text - at
 
--- src/cursor.rt:189:9
 loop-holds : tie.Need-loop-holds Inv-loop μ-loop
 loop-holds c = search (needs, eating, ascii, running)
 
--- src/cursor.rt:190:17
 byte-requires : tie.Need-byte-requires Inv-loop μ-loop
 byte-requires c κs = search needs
 
--- src/cursor.rt:192:17
 returns : tie.Need-returns Inv-loop μ-loop
 returns c = search (needs, eating, ascii, running)
 
--- src/cursor.rt:194:17
 is-xid-continue-in-requires : tie.Need-is-xid-continue-in-requires Inv-loop μ-loop
 is-xid-continue-in-requires c κs = search needs
 
--- src/cursor.rt:195:17
 returns-2 : tie.Need-returns-2 Inv-loop μ-loop
 returns-2 c = search (needs, eating, ascii, running)
 
--- src/cursor.rt:197:18
 add-at : tie.Need-add-at Inv-loop μ-loop
 add-at c = search needs
 
--- src/cursor.rt:189:9
 loop-less : tie.Need-loop-less Inv-loop μ-loop
 loop-less c = search needs
 
--- src/cursor.rt:189:9
 loop-again : tie.Need-loop-again Inv-loop μ-loop
 loop-again c = search (needs, eating, ascii, running)
 
--- src/cursor.rt:184:5
 returns-3 : tie.Need-returns-3 Inv-loop μ-loop
 returns-3 c = search (needs, eating, ascii, running)
 

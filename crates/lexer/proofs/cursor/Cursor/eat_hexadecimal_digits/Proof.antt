@@ -1,17 +1,11 @@
 use Prim.Native.Nat.{_-_}
 use lib.ListN.{length}
-use Rattle.unicode.specs.Text.{keep}
 use Rattle.unicode.proofs.Ascii.{Going}
-use Rattle.lexer.specs.Cut.{notLf, isDigit, isHexDigit, orUnderscore, met}
+use Rattle.lexer.specs.Cut.{isHexDigit, orUnderscore, met}
 use Rattle.lexer.proofs.Bytewise.{bytewise}
 use borrow.Author.Needs.{needs}
 use Rattle.lexer.proofs.cursor.Cursor.eat_hexadecimal_digits.Statement.{statement}
 use Rattle.lexer.proofs.cursor.Cursor.eat_hexadecimal_digits.Tie as tie
-use Rattle.lexer.proofs.cursor.Cursor.eat_hexadecimal_digits.Reads as reads
-use Rattle.lexer.proofs.cursor.Cursor.eat_hexadecimal_digits.Lts as lts
-use Rattle.lexer.proofs.cursor.byte.Reads as byte-reads
-use Rattle.lexer.proofs.cursor.is_hex_or_underscore.Reads as is-hex-or-underscore-reads
-use Rattle.lexer.proofs.cursor.met_hex.Reads as met-hex-reads
 
 abbrev Inv-loop : tie.InvT-loop
 Inv-loop text at₀ any₀ at any = Going (orUnderscore isHexDigit) (met isHexDigit) text at₀ any₀ at any
@@ -19,39 +13,30 @@ Inv-loop text at₀ any₀ at any = Going (orUnderscore isHexDigit) (met isHexDi
 abbrev μ-loop : tie.MeasureT-loop
 μ-loop text at₀ any₀ at any = length text - at
 
--- src/cursor.rt:205:9
 loop-holds : tie.Need-loop-holds Inv-loop μ-loop
 loop-holds c = search (needs, bytewise)
 
--- src/cursor.rt:206:17
 byte-requires : tie.Need-byte-requires Inv-loop μ-loop
 byte-requires c κs = search needs
 
--- src/cursor.rt:207:17
 is-hex-or-underscore-requires : tie.Need-is-hex-or-underscore-requires Inv-loop μ-loop
 is-hex-or-underscore-requires c κs = search needs
 
--- src/cursor.rt:208:17
 returns : tie.Need-returns Inv-loop μ-loop
 returns c = search (needs, bytewise)
 
--- src/cursor.rt:210:13
 met-hex-requires : tie.Need-met-hex-requires Inv-loop μ-loop
 met-hex-requires c κs = search needs
 
--- src/cursor.rt:211:18
 add-at : tie.Need-add-at Inv-loop μ-loop
 add-at c = search needs
 
--- src/cursor.rt:205:9
 loop-less : tie.Need-loop-less Inv-loop μ-loop
 loop-less c = search needs
 
--- src/cursor.rt:205:9
 loop-again : tie.Need-loop-again Inv-loop μ-loop
 loop-again c = search (needs, bytewise)
 
--- src/cursor.rt:199:5
 returns-2 : tie.Need-returns-2 Inv-loop μ-loop
 returns-2 c = search (needs, bytewise)
 

@@ -4,16 +4,10 @@ use lib.ListN.{length}
 use Rattle.unicode.specs.Text.{Eating, keep}
 use Rattle.unicode.proofs.Text.{eating, decoded-fits, decoded-some}
 use Rattle.unicode.proofs.Ascii.{ascii}
-use Rattle.lexer.specs.Chars.{isWhitespace}
 use Rattle.lexer.specs.Unicode.{moreIn}
 use borrow.Author.Needs.{needs}
 use Rattle.lexer.proofs.cursor.Cursor.eat_id_continue.Statement.{statement}
 use Rattle.lexer.proofs.cursor.Cursor.eat_id_continue.Tie as tie
-use Rattle.lexer.proofs.cursor.Cursor.eat_id_continue.Reads as reads
-use Rattle.lexer.proofs.cursor.Cursor.eat_id_continue.Lts as lts
-use Rattle.lexer.proofs.cursor.byte.Reads as byte-reads
-use Rattle.unicode.proofs.properties.is_xid_continue_in.Reads as is-xid-continue-in-reads
-use Rattle.unicode.proofs.utf8.decode.Reads as decode-reads
 
 abbrev Inv-loop : tie.InvT-loop
 Inv-loop text more at₀ at = Eating (moreIn more) keep text at₀ tt at tt
@@ -21,59 +15,45 @@ Inv-loop text more at₀ at = Eating (moreIn more) keep text at₀ tt at tt
 abbrev μ-loop : tie.MeasureT-loop
 μ-loop text more at₀ at = length text - at
 
--- src/cursor.rt:164:9
 loop-holds : tie.Need-loop-holds Inv-loop μ-loop
 loop-holds c = search (needs, eating, ascii)
 
--- src/cursor.rt:165:17
 byte-requires : tie.Need-byte-requires Inv-loop μ-loop
 byte-requires c κs = search needs
 
--- src/cursor.rt:167:21
 is-xid-continue-in-requires : tie.Need-is-xid-continue-in-requires Inv-loop μ-loop
 is-xid-continue-in-requires c κs = search needs
 
--- src/cursor.rt:168:21
 returns : tie.Need-returns Inv-loop μ-loop
 returns c = search (needs, eating, ascii)
 
--- src/cursor.rt:170:22
 add-at : tie.Need-add-at Inv-loop μ-loop
 add-at c = search needs
 
--- src/cursor.rt:164:9
 loop-less : tie.Need-loop-less Inv-loop μ-loop
 loop-less c = search needs
 
--- src/cursor.rt:164:9
 loop-again : tie.Need-loop-again Inv-loop μ-loop
 loop-again c = search (needs, eating, ascii)
 
--- src/cursor.rt:172:21
 decode-requires : tie.Need-decode-requires Inv-loop μ-loop
 decode-requires c κs = search needs
 
--- src/cursor.rt:173:21
 is-xid-continue-in-requires-2 : tie.Need-is-xid-continue-in-requires-2 Inv-loop μ-loop
 is-xid-continue-in-requires-2 c κs = search needs
 
--- src/cursor.rt:174:21
 returns-2 : tie.Need-returns-2 Inv-loop μ-loop
 returns-2 c = search (needs, eating, ascii)
 
--- src/cursor.rt:176:22
 add-at-2 : tie.Need-add-at-2 Inv-loop μ-loop
 add-at-2 c = omega (arith, decoded-fits)
 
--- src/cursor.rt:164:9
 loop-less-2 : tie.Need-loop-less-2 Inv-loop μ-loop
 loop-less-2 c = omega (arith, decoded-some)
 
--- src/cursor.rt:164:9
 loop-again-2 : tie.Need-loop-again-2 Inv-loop μ-loop
 loop-again-2 c = search (needs, eating, ascii)
 
--- src/cursor.rt:159:5
 returns-3 : tie.Need-returns-3 Inv-loop μ-loop
 returns-3 c = search (needs, eating, ascii)
 

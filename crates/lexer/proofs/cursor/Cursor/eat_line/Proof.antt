@@ -2,15 +2,11 @@ use Prim.Native.Nat.{_-_}
 use lib.ListN.{length}
 use Rattle.unicode.specs.Text.{keep}
 use Rattle.unicode.proofs.Ascii.{Going}
-use Rattle.lexer.specs.Cut.{notLf, isDigit, isHexDigit, orUnderscore, met}
+use Rattle.lexer.specs.Cut.{notLf}
 use Rattle.lexer.proofs.Bytewise.{bytewise}
 use borrow.Author.Needs.{needs}
 use Rattle.lexer.proofs.cursor.Cursor.eat_line.Statement.{statement}
 use Rattle.lexer.proofs.cursor.Cursor.eat_line.Tie as tie
-use Rattle.lexer.proofs.cursor.Cursor.eat_line.Reads as reads
-use Rattle.lexer.proofs.cursor.Cursor.eat_line.Lts as lts
-use Rattle.lexer.proofs.cursor.byte.Reads as byte-reads
-use Rattle.lexer.proofs.cursor.not_lf.Reads as not-lf-reads
 
 abbrev Inv-loop : tie.InvT-loop
 Inv-loop text at₀ at = Going notLf keep text at₀ tt at tt
@@ -18,35 +14,27 @@ Inv-loop text at₀ at = Going notLf keep text at₀ tt at tt
 abbrev μ-loop : tie.MeasureT-loop
 μ-loop text at₀ at = length text - at
 
--- src/cursor.rt:127:9
 loop-holds : tie.Need-loop-holds Inv-loop μ-loop
 loop-holds c = search (needs, bytewise)
 
--- src/cursor.rt:128:24
 byte-requires : tie.Need-byte-requires Inv-loop μ-loop
 byte-requires c κs = search needs
 
--- src/cursor.rt:128:17
 not-lf-requires : tie.Need-not-lf-requires Inv-loop μ-loop
 not-lf-requires c κs = search needs
 
--- src/cursor.rt:129:17
 returns : tie.Need-returns Inv-loop μ-loop
 returns c = search (needs, bytewise)
 
--- src/cursor.rt:131:18
 add-at : tie.Need-add-at Inv-loop μ-loop
 add-at c = search needs
 
--- src/cursor.rt:127:9
 loop-less : tie.Need-loop-less Inv-loop μ-loop
 loop-less c = search needs
 
--- src/cursor.rt:127:9
 loop-again : tie.Need-loop-again Inv-loop μ-loop
 loop-again c = search (needs, bytewise)
 
--- src/cursor.rt:122:5
 returns-2 : tie.Need-returns-2 Inv-loop μ-loop
 returns-2 c = search (needs, bytewise)
 

@@ -5,15 +5,9 @@ use Rattle.unicode.specs.Text.{Eating, keep}
 use Rattle.unicode.proofs.Text.{eating, decoded-fits, decoded-some}
 use Rattle.unicode.proofs.Ascii.{ascii}
 use Rattle.lexer.specs.Chars.{isWhitespace}
-use Rattle.lexer.specs.Unicode.{moreIn}
 use borrow.Author.Needs.{needs}
 use Rattle.lexer.proofs.cursor.Cursor.eat_whitespace.Statement.{statement}
 use Rattle.lexer.proofs.cursor.Cursor.eat_whitespace.Tie as tie
-use Rattle.lexer.proofs.cursor.Cursor.eat_whitespace.Reads as reads
-use Rattle.lexer.proofs.cursor.Cursor.eat_whitespace.Lts as lts
-use Rattle.lexer.proofs.cursor.byte.Reads as byte-reads
-use Rattle.lexer.proofs.is_whitespace.Reads as is-whitespace-reads
-use Rattle.unicode.proofs.utf8.decode.Reads as decode-reads
 
 abbrev Inv-loop : tie.InvT-loop
 Inv-loop text at₀ at = Eating isWhitespace keep text at₀ tt at tt
@@ -21,59 +15,45 @@ Inv-loop text at₀ at = Eating isWhitespace keep text at₀ tt at tt
 abbrev μ-loop : tie.MeasureT-loop
 μ-loop text at₀ at = length text - at
 
--- src/cursor.rt:141:9
 loop-holds : tie.Need-loop-holds Inv-loop μ-loop
 loop-holds c = search (needs, eating, ascii)
 
--- src/cursor.rt:142:17
 byte-requires : tie.Need-byte-requires Inv-loop μ-loop
 byte-requires c κs = search needs
 
--- src/cursor.rt:144:21
 is-whitespace-requires : tie.Need-is-whitespace-requires Inv-loop μ-loop
 is-whitespace-requires c κs = search needs
 
--- src/cursor.rt:145:21
 returns : tie.Need-returns Inv-loop μ-loop
 returns c = search (needs, eating, ascii)
 
--- src/cursor.rt:147:22
 add-at : tie.Need-add-at Inv-loop μ-loop
 add-at c = search needs
 
--- src/cursor.rt:141:9
 loop-less : tie.Need-loop-less Inv-loop μ-loop
 loop-less c = search needs
 
--- src/cursor.rt:141:9
 loop-again : tie.Need-loop-again Inv-loop μ-loop
 loop-again c = search (needs, eating, ascii)
 
--- src/cursor.rt:149:21
 decode-requires : tie.Need-decode-requires Inv-loop μ-loop
 decode-requires c κs = search needs
 
--- src/cursor.rt:150:21
 is-whitespace-requires-2 : tie.Need-is-whitespace-requires-2 Inv-loop μ-loop
 is-whitespace-requires-2 c κs = search needs
 
--- src/cursor.rt:151:21
 returns-2 : tie.Need-returns-2 Inv-loop μ-loop
 returns-2 c = search (needs, eating, ascii)
 
--- src/cursor.rt:153:22
 add-at-2 : tie.Need-add-at-2 Inv-loop μ-loop
 add-at-2 c = omega (arith, decoded-fits)
 
--- src/cursor.rt:141:9
 loop-less-2 : tie.Need-loop-less-2 Inv-loop μ-loop
 loop-less-2 c = omega (arith, decoded-some)
 
--- src/cursor.rt:141:9
 loop-again-2 : tie.Need-loop-again-2 Inv-loop μ-loop
 loop-again-2 c = search (needs, eating, ascii)
 
--- src/cursor.rt:136:5
 returns-3 : tie.Need-returns-3 Inv-loop μ-loop
 returns-3 c = search (needs, eating, ascii)
 
