@@ -1,7 +1,8 @@
 #!/usr/bin/env python3
-"""Compares the program `answers` with the Rust crate on generated texts: task tok under both profiles, and task ident.
+"""Compares the program `answers` with the Rust crate on generated texts: task tok under both profiles, and task ident; or, with --bodies, the
+tasks unescape in all seven modes, char and byte, on bodies of literals.
 
-    tools/compare.py RELEASE DEBUG ANSWERS [--short N] [--random N] [--seed S] [--programs DIR]
+    tools/compare.py RELEASE DEBUG ANSWERS [--bodies] [--short N] [--random N] [--seed S] [--programs DIR]
 
 RELEASE and DEBUG are the program that answers cases with the crate, built without and with debug assertions; ANSWERS is
 target/bin/answers. Every text of at most N pieces of the alphabet is compared (--short), then random texts of several sorts,
@@ -25,6 +26,16 @@ WORDS = ALPHABET + [s.encode() for s in (
     "pragma/*", "#dim", "@x", "@ y", "$0", "$12", "$_", "$a", "OPENQASM", "qubit", "gate", "θ", "ÿ", "x1", "_a", "a\u0301",
     "\u2028", "\u2029", "\u200E", "\u00A0", "\u3000", "☕", "👨\u200D👩", "#️⃣", "1️⃣", "\uFEFF", "\U0010FFFF", "\U000E0001", "ª", "·",
     "℘", "ﬁ", "中", ";", ",", "(", ")", "{", "}", "[", "]", "~", "?", ":", "=", "!", "<", ">", "-", "&", "|", "+", "^", "%", "`", "\x7f", "\x01",
+)]
+
+# Pieces at which a rule of bodies turns, and pieces of which longer bodies are made.
+BODY_ALPHABET = [s.encode() for s in "\\nrtxu{}07Ff_'\"\n\r \té\u00A0\u3000\0"]
+
+BODY_WORDS = BODY_ALPHABET + [s.encode() for s in (
+    "\\n", "\\\\", "\\'", "\\\"", "\\0", "\\x41", "\\x7F", "\\xff", "\\x4", "\\xg1", "\\u{41}", "\\u{e9}", "\\u{D7FF}", "\\u{D800}", "\\u{DFFF}", "\\u{E000}",
+    "\\u{10FFFF}", "\\u{110000}", "\\u{FFFFFF}", "\\u{1234567}", "\\u{0000041}", "\\u{4_1}", "\\u{_41}", "\\u{41_}", "\\u{}", "\\u{", "\\u{4", "\\u41", "\\u{4g}",
+    "\\\n", "\\\n  ", "\\\n\n", "\\\n \t\r\n ", "\\\n\u00A0", "\\\n\n\u3000", "\\\n\x0b", "\\\n\u0085", "\\\n\u200E", "\\\n\u2028", "\\\r\n", "abc", "z", "A", "9", "g",
+    "\x7f", "\u0080", "ÿ", "中", "\U0001F600", "\U0010FFFF", "\uFEFF", "\u1680", "\u180E", "\u200B", "\u202F", "\u205F",
 )]
 
 
@@ -71,10 +82,35 @@ def texts(rng, count, programs):
             yield bytes(rng.choice(b"\"01_\n/*#e.x$@ ") for _ in range(rng.randint(1, 16)))
 
 
-def short(length):
+def bodies(rng, count):
+    for _ in range(count):
+        sort = rng.randrange(10)
+        if sort < 5:
+            yield b"".join(rng.choice(BODY_WORDS) for _ in range(rng.randint(1, 8)))
+        elif sort == 5:
+            yield b"".join(rng.choice(BODY_WORDS) for _ in range(rng.randint(9, 120)))
+        elif sort == 6:
+            yield b"".join(scalar(rng) for _ in range(rng.randint(1, 12)))
+        elif sort == 7:
+            yield damaged(rng, b"".join(rng.choice(BODY_WORDS) for _ in range(rng.randint(1, 8))))
+        elif sort == 8:
+            yield b"\\u{" + bytes(rng.choice(b"0123456789abcdefABCDEFDd1_}") for _ in range(rng.randint(0, 9))) + rng.choice((b"}", b""))
+        else:
+            yield b"\\\n" + b"".join(rng.choice((b" ", b"\t", b"\n", b"\r", scalar(rng), rng.choice(BODY_WORDS))) for _ in range(rng.randint(0, 5)))
+
+
+def short(alphabet, length):
     for n in range(length + 1):
-        for pieces in itertools.product(ALPHABET, repeat=n):
+        for pieces in itertools.product(alphabet, repeat=n):
             yield b"".join(pieces)
+
+
+def tasks(options):
+    """The beginnings of the cases that are asked of each text, with the program that answers them by the Rust."""
+    if options.bodies:
+        asked = [b"unescape %d" % mode for mode in range(7)] + [b"char", b"byte"]
+        return [(task, oracle) for oracle in (options.release, options.debug) for task in asked]
+    return [(b"tok 0", options.release), (b"tok 1", options.debug), (b"ident", options.release), (b"ident", options.debug)]
 
 
 def answers(program, cases):
@@ -85,8 +121,8 @@ def compare(options, batch):
     """How many cases were compared, and those that differ."""
     wrong = []
     total = 0
-    for task, oracle in (("tok 0", options.release), ("tok 1", options.debug), ("ident", options.release), ("ident", options.debug)):
-        cases = b"".join(b"%s %s\n" % (task.encode(), t.hex().encode() or b"-") for t in batch)
+    for task, oracle in tasks(options):
+        cases = b"".join(b"%s %s\n" % (task, t.hex().encode() or b"-") for t in batch)
         theirs = answers(oracle, cases)
         ours = answers(options.answers, cases)
         if len(theirs) != len(ours) or len(ours) != len(batch) + 1:
@@ -109,6 +145,7 @@ def main():
     parser.add_argument("release")
     parser.add_argument("debug")
     parser.add_argument("answers")
+    parser.add_argument("--bodies", action="store_true")
     parser.add_argument("--short", type=int, default=3)
     parser.add_argument("--random", type=int, default=500000)
     parser.add_argument("--seed", type=int, default=1)
@@ -118,7 +155,10 @@ def main():
     programs = [p.read_bytes() for p in sorted(pathlib.Path(options.programs).iterdir())] if options.programs else []
     total, wrong = 0, []
     whole = [p for p in programs if len(p) <= 32000]
-    stream = itertools.chain(whole, short(options.short), texts(rng, options.random, programs))
+    if options.bodies:
+        stream = itertools.chain(short(BODY_ALPHABET, options.short), bodies(rng, options.random))
+    else:
+        stream = itertools.chain(whole, short(ALPHABET, options.short), texts(rng, options.random, programs))
     for batch in batches(stream, 20000):
         n, w = compare(options, batch)
         total += n

@@ -1,4 +1,5 @@
 // Answers the cases on standard input, one a line: prints each line again, with ` = ` and its answer behind it.
+mod bodies;
 mod lines;
 mod output;
 mod tasks;

@@ -1,4 +1,5 @@
 // The tasks: each is a function of its arguments and an arm of `answer`.
+use crate::bodies;
 use crate::output::put;
 use crate::output::put_all;
 use crate::output::put_number;
@@ -8,10 +9,10 @@ use crate::words::Number;
 use text::Answer;
 
 // The most words of a list, three for each byte of the longest text.
-const LIST: usize = 98304;
+pub const LIST: usize = 98304;
 
 // The answer to what can't be read.
-fn refuse(out: &mut [u8], used: usize) -> usize {
+pub fn refuse(out: &mut [u8], used: usize) -> usize {
     put_all(out, used, b"unreadable")
 }
 
@@ -75,7 +76,7 @@ fn mark(i: usize, records: bool) -> u8 {
 }
 
 // The words of the first n records of a list, joined by commas if they are to be read as `records`.
-fn put_words(out: &mut [u8], used: usize, list: &[u32], n: u64, records: bool) -> usize {
+pub fn put_words(out: &mut [u8], used: usize, list: &[u32], n: u64, records: bool) -> usize {
     let mut total = used;
     let mut i = 0;
     while i < list.len() {
@@ -89,7 +90,7 @@ fn put_words(out: &mut [u8], used: usize, list: &[u32], n: u64, records: bool) -
     total
 }
 
-fn put_answer(out: &mut [u8], used: usize, given: Answer) -> usize {
+pub fn put_answer(out: &mut [u8], used: usize, given: Answer) -> usize {
     let used = put_word(out, used, given.number);
     let used = put(out, used, b' ');
     put_number(out, used, given.also)
@@ -179,7 +180,7 @@ fn answer(line: &[u8], room: &mut [u8], out: &mut [u8], used: usize) -> usize {
     if words::same(task, b"ident") {
         return ident(arguments, room, out, used);
     }
-    put_all(out, used, b"unknown")
+    bodies::answer(task, arguments, room, out, used)
 }
 
 // The line, of which `have` bytes were read, and its answer. Of a line too long the buffer has the beginning.

@@ -1,13 +1,18 @@
 -- Laws of "and" and "or" that proofs share, and the one of every promise that is an equation.
 -- Assumes nothing.
 use mathlib.Core.Path.{_≡_, refl, sym, _∙_}
-use mathlib.Core.Bool.{Bool, true, false, _&&_, _||_, false≢true}
+use mathlib.Core.Bool.{Bool, true, false, cond, _&&_, _||_, false≢true}
 use lib.Dec.{T}
 
 -- by cases on a test, with what it says
 pub by-test : {P : Type 0} (b : Bool) → (b ≡ true → P) → (b ≡ false → P) → P
 by-test true f g = f refl
 by-test false f g = g refl
+
+-- what holds of both, holds of the chosen one
+pub on-cond : {A : Type 0} (P : A → Type 0) (b : Bool) {x y : A} → P x → P y → P (cond b x y)
+on-cond P true p q = p
+on-cond P false p q = q
 
 pub and-false : (b : Bool) → (b && false) ≡ false
 and-false true = refl

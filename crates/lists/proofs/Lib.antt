@@ -3,3 +3,4 @@ pub mod Cut
 pub mod Eat
 pub mod Ends
 pub mod Put
+pub mod Store

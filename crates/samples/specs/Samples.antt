@@ -4,14 +4,17 @@ use Prim.Native.Nat.{ℕ}
 use mathlib.Core.List.{List, [], _∷_}
 use lib.ListN.{length}
 use Rattle.lexer.specs.Outcome.{outcome, listed}
+use Rattle.unescape.specs.Outcome as bodies
 
--- a call: a text, a profile and the list that is lent
+-- a call: a text, a profile and the list that is lent; or a body, a mode and the list
 pub data Call : Type 0 where
   tokenize : (text : List ℕ) (profile : ℕ) (list : List ℕ) → Call
+  unescape : (body : List ℕ) (mode : ℕ) (list : List ℕ) → Call
 
 -- the number and what is also returned, and the list behind the call
 abbrev pub does : Call → (ℕ × ℕ) × List ℕ
 does (tokenize text profile list) = (outcome text profile (length list), listed text profile list)
+does (unescape body mode list) = (bodies.outcome body mode (length list), bodies.listed body mode list)
 
 pub record Sample : Type 0 where
   pub call : Call
@@ -53,6 +56,18 @@ samples =
     one (0x70 ∷ 0x72 ∷ 0x61 ∷ 0x67 ∷ 0x6D ∷ 0x61 ∷ []) 5 6 0 ∷
     -- pragma under profile 1
     record { call = tokenize (0x70 ∷ 0x72 ∷ 0x61 ∷ 0x67 ∷ 0x6D ∷ 0x61 ∷ []) 1 (7 ∷ 7 ∷ 7 ∷ []); answer = (0, 1); after = 8 ∷ 6 ∷ 0 ∷ [] } ∷
+    -- \u{1234567} in Byte mode: Overlong
+    record {
+      call = unescape (0x5C ∷ 0x75 ∷ 0x7B ∷ 0x31 ∷ 0x32 ∷ 0x33 ∷ 0x34 ∷ 0x35 ∷ 0x36 ∷ 0x37 ∷ 0x7D ∷ []) 2 (7 ∷ 7 ∷ 7 ∷ []);
+      answer = (0, 1);
+      after = 0 ∷ 11 ∷ 1114128 ∷ [];
+    } ∷
+    -- \u{D800} in Byte mode: UnicodeEscapeInByte
+    record {
+      call = unescape (0x5C ∷ 0x75 ∷ 0x7B ∷ 0x44 ∷ 0x38 ∷ 0x30 ∷ 0x30 ∷ 0x7D ∷ []) 2 (7 ∷ 7 ∷ 7 ∷ []);
+      answer = (0, 1);
+      after = 0 ∷ 8 ∷ 1114131 ∷ [];
+    } ∷
     -- the lone byte FF
     record { call = tokenize (0xFF ∷ []) 0 (7 ∷ 7 ∷ 7 ∷ []); answer = (3, 0); after = 7 ∷ 7 ∷ 7 ∷ [] } ∷
     -- ; with room for no record

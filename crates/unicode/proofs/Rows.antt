@@ -16,11 +16,11 @@ use Rattle.unicode.specs.Utf8.{Row, row, table, behind, begins, joined, 
 use Rattle.unicode.specs.Wide.{low, high, follows, two, three, four}
 
 -- ---- a test that antt computes at every number below n, and what it says of each
-abbrev every : (ℕ → Bool) → ℕ → Bool
+abbrev pub every : (ℕ → Bool) → ℕ → Bool
 every f zero = true
 every f (suc n) = f n && every f n
 
-each : (f : ℕ → Bool) (n : ℕ) → T (every f n) → (k : ℕ) → k < n → T (f k)
+pub each : (f : ℕ → Bool) (n : ℕ) → T (every f n) → (k : ℕ) → k < n → T (f k)
 each f zero t k h = absurd (omega arith)
 each f (suc n) t k h =
     let p : T (f n) × T (every f n) = both-T (f n) (every f n) t in

@@ -1,0 +1,11 @@
+pub mod Scans
+pub mod Digits
+pub mod Escaping
+pub mod Fair
+pub mod Turns
+pub mod Whole
+pub mod Tests
+pub mod Order
+pub mod Samples
+pub mod Bytes
+pub mod Unique

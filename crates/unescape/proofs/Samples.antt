@@ -1,0 +1,89 @@
+-- Worked examples, computed: the scope's two starred ones first; and programs that the promises rule out.
+-- Assumes nothing.
+use Prim.Native.Nat.{ℕ}
+use native.Mathlib.Omega.{arith}
+use mathlib.Core.Path.{_≡_, refl}
+use mathlib.Core.Bool.{true}
+use mathlib.Core.List.{List, [], _∷_}
+use Rattle.lists.specs.Cut.{cut, pieces}
+use Rattle.lists.specs.Eat.{eat}
+use Rattle.unicode.specs.Ranges.{inTable}
+use Rattle.unicode.specs.Utf8.{table, behind, begins, joined as joinedBits, readBy, first, next, chars, width, isScalar, goodBytes, validUpTo}
+use Rattle.unicode.specs.Text.{bytes}
+use Rattle.unicode.specs.Ucd.{whiteSpace}
+use Rattle.text.specs.Answer.{Answered, done, roomTooSmall, checkText}
+use Rattle.unescape.specs.Modes.{isSingle, isRaw, charactersShouldBeAscii, strMode}
+use Rattle.unescape.specs.Errors.{error, number, loneSurrogateUnicodeEscape, unicodeEscapeInByte, unskippedWhitespaceWarning}
+use Rattle.unescape.specs.Escapes.{toDigit, hexDigit, hexEscape, firstDigit, moreDigits, codePoint, closing, braced, unicodeEscape, simple, escape, asciiCheck}
+use Rattle.unescape.specs.Bodies.{alone, oneChar, charOrByte, strChar, rawChar, unskipped, skipped, slashed, strCommon, rawStr, turn, joined, turns, items, itemsOf, flat}
+use Rattle.unescape.specs.Outcome.{outcome, listed, Unescaped, single}
+
+-- a mode, a body, and the words of its items
+pub data Sample : Type 0 where
+  sample : ℕ → List ℕ → List ℕ → Sample
+
+unfoldable pub samples : List Sample
+samples =
+    -- * \u{1234567} in Byte mode is Overlong
+    sample 2 (0x5C ∷ 0x75 ∷ 0x7B ∷ 0x31 ∷ 0x32 ∷ 0x33 ∷ 0x34 ∷ 0x35 ∷ 0x36 ∷ 0x37 ∷ 0x7D ∷ []) (0 ∷ 11 ∷ 1114128 ∷ []) ∷
+    -- * \u{D800} in Byte mode is UnicodeEscapeInByte
+    sample 2 (0x5C ∷ 0x75 ∷ 0x7B ∷ 0x44 ∷ 0x38 ∷ 0x30 ∷ 0x30 ∷ 0x7D ∷ []) (0 ∷ 8 ∷ 1114131 ∷ []) ∷
+    -- in Char mode it is a lone surrogate
+    sample 0 (0x5C ∷ 0x75 ∷ 0x7B ∷ 0x44 ∷ 0x38 ∷ 0x30 ∷ 0x30 ∷ 0x7D ∷ []) (0 ∷ 8 ∷ 1114129 ∷ []) ∷
+    -- an empty body of Char has one item
+    sample 0 ([]) (0 ∷ 0 ∷ 1114113 ∷ []) ∷
+    -- of two characters the second is still read, and no third
+    sample 0 (0x61 ∷ 0x62 ∷ 0x63 ∷ []) (0 ∷ 2 ∷ 1114114 ∷ []) ∷
+    -- \x80 to \xFF are taken in Str
+    sample 1 (0x5C ∷ 0x78 ∷ 0x66 ∷ 0x66 ∷ []) (0 ∷ 4 ∷ 255 ∷ []) ∷
+    -- a newline behind a backslash is skipped with what white space of ASCII follows
+    sample 1 (0x61 ∷ 0x5C ∷ 0x0A ∷ 0x09 ∷ 0x20 ∷ 0x62 ∷ []) (0 ∷ 1 ∷ 97 ∷ 5 ∷ 6 ∷ 98 ∷ []) ∷
+    -- a second one gives warning 22; then warning 21 ends with the character that is not skipped
+    sample 1 (0x5C ∷ 0x0A ∷ 0x0A ∷ 0xC2 ∷ 0xA0 ∷ 0x7A ∷ []) (0 ∷ 3 ∷ 1114134 ∷ 0 ∷ 5 ∷ 1114133 ∷ 3 ∷ 5 ∷ 160 ∷ 5 ∷ 6 ∷ 122 ∷ []) ∷
+    -- warning 21 alone
+    sample 4 (0x5C ∷ 0x0A ∷ 0x0B ∷ []) (0 ∷ 3 ∷ 1114133 ∷ 2 ∷ 3 ∷ 11 ∷ []) ∷
+    -- a bare CR, in Str and in RawStr
+    sample 1 (0x0D ∷ []) (0 ∷ 1 ∷ 1114117 ∷ []) ∷
+    sample 5 (0x0D ∷ []) (0 ∷ 1 ∷ 1114118 ∷ []) ∷
+    -- a raw body has no escapes
+    sample 6 (0x5C ∷ 0x6E ∷ 0xC3 ∷ 0xA9 ∷ []) (0 ∷ 1 ∷ 92 ∷ 1 ∷ 2 ∷ 110 ∷ 2 ∷ 4 ∷ 1114132 ∷ []) ∷ []
+
+unfoldable pub given : List Sample → List (List ℕ)
+given [] = []
+given (sample mode body words ∷ t) = flat (itemsOf mode body) ∷ given t
+
+unfoldable pub told : List Sample → List (List ℕ)
+told [] = []
+told (sample mode body words ∷ t) = words ∷ told t
+
+pub samples-hold : given samples ≡ told samples
+unfolding samples given told cut pieces eat inTable table behind begins joinedBits readBy first next chars width isScalar goodBytes validUpTo bytes whiteSpace checkText isSingle isRaw charactersShouldBeAscii toDigit hexDigit hexEscape firstDigit moreDigits codePoint closing braced unicodeEscape simple escape asciiCheck alone oneChar charOrByte strChar rawChar unskipped skipped slashed strCommon rawStr turn joined turns items itemsOf flat
+samples-hold = refl
+
+-- ---- a surrogate told before the error of byte mode
+pub rules-out-surrogate-first : Answered (single true (0x5C ∷ 0x75 ∷ 0x7B ∷ 0x44 ∷ 0x38 ∷ 0x30 ∷ 0x30 ∷ 0x7D ∷ [])) done (number (error loneSurrogateUnicodeEscape)) → ⊥
+unfolding single cut pieces eat inTable table behind begins joinedBits readBy first next chars width isScalar goodBytes validUpTo bytes whiteSpace checkText isSingle isRaw charactersShouldBeAscii toDigit hexDigit hexEscape firstDigit moreDigits codePoint closing braced unicodeEscape simple escape asciiCheck alone oneChar charOrByte strChar rawChar unskipped skipped slashed strCommon rawStr turn joined turns items itemsOf flat
+rules-out-surrogate-first a = let z : _≡_ {A = ℕ} 1114129 1114131 = a .also-is in omega arith
+
+-- Overlong told behind it
+pub rules-out-overlong-late : Answered (single true (0x5C ∷ 0x75 ∷ 0x7B ∷ 0x31 ∷ 0x32 ∷ 0x33 ∷ 0x34 ∷ 0x35 ∷ 0x36 ∷ 0x37 ∷ 0x7D ∷ [])) done (number (error unicodeEscapeInByte)) → ⊥
+unfolding single cut pieces eat inTable table behind begins joinedBits readBy first next chars width isScalar goodBytes validUpTo bytes whiteSpace checkText isSingle isRaw charactersShouldBeAscii toDigit hexDigit hexEscape firstDigit moreDigits codePoint closing braced unicodeEscape simple escape asciiCheck alone oneChar charOrByte strChar rawChar unskipped skipped slashed strCommon rawStr turn joined turns items itemsOf flat
+rules-out-overlong-late a = let z : _≡_ {A = ℕ} 1114131 1114128 = a .also-is in omega arith
+
+-- warning 21 without its character
+pub rules-out-short-warning : {rest : List ℕ} → Unescaped (0x5C ∷ 0x0A ∷ 0xC2 ∷ 0xA0 ∷ []) strMode (0 ∷ 0 ∷ 0 ∷ 0 ∷ 0 ∷ 0 ∷ []) done 2 (0 ∷ 2 ∷ number (error unskippedWhitespaceWarning) ∷ rest) → ⊥
+unfolding outcome listed cut pieces eat inTable table behind begins joinedBits readBy first next chars width isScalar goodBytes validUpTo bytes whiteSpace checkText isSingle isRaw charactersShouldBeAscii toDigit hexDigit hexEscape firstDigit moreDigits codePoint closing braced unicodeEscape simple escape asciiCheck alone oneChar charOrByte strChar rawChar unskipped skipped slashed strCommon rawStr turn joined turns items itemsOf flat
+rules-out-short-warning u = let z : _≡_ {A = ℕ} 2 4 = cc (u .words) in omega arith
+
+-- the last item lost, a refusal that writes, and a need off by one: of `ab`
+pub rules-out-lost-item : {list : List ℕ} → Unescaped (0x61 ∷ 0x62 ∷ []) strMode (0 ∷ 0 ∷ 0 ∷ 0 ∷ 0 ∷ 0 ∷ []) done 1 list → ⊥
+unfolding outcome listed cut pieces eat inTable table behind begins joinedBits readBy first next chars width isScalar goodBytes validUpTo bytes whiteSpace checkText isSingle isRaw charactersShouldBeAscii toDigit hexDigit hexEscape firstDigit moreDigits codePoint closing braced unicodeEscape simple escape asciiCheck alone oneChar charOrByte strChar rawChar unskipped skipped slashed strCommon rawStr turn joined turns items itemsOf flat
+rules-out-lost-item u = let z : _≡_ {A = ℕ} 1 2 = u .answer .also-is in omega arith
+
+pub rules-out-writing-refusal : Unescaped (0x61 ∷ 0x62 ∷ []) strMode (0 ∷ 0 ∷ 0 ∷ []) roomTooSmall 2 (0 ∷ 1 ∷ 0x61 ∷ []) → ⊥
+unfolding outcome listed cut pieces eat inTable table behind begins joinedBits readBy first next chars width isScalar goodBytes validUpTo bytes whiteSpace checkText isSingle isRaw charactersShouldBeAscii toDigit hexDigit hexEscape firstDigit moreDigits codePoint closing braced unicodeEscape simple escape asciiCheck alone oneChar charOrByte strChar rawChar unskipped skipped slashed strCommon rawStr turn joined turns items itemsOf flat
+rules-out-writing-refusal u = let z : _≡_ {A = ℕ} 1 0 = cc (u .words) in omega arith
+
+pub rules-out-other-need : Unescaped (0x61 ∷ 0x62 ∷ []) strMode [] roomTooSmall 3 [] → ⊥
+unfolding outcome listed cut pieces eat inTable table behind begins joinedBits readBy first next chars width isScalar goodBytes validUpTo bytes whiteSpace checkText isSingle isRaw charactersShouldBeAscii toDigit hexDigit hexEscape firstDigit moreDigits codePoint closing braced unicodeEscape simple escape asciiCheck alone oneChar charOrByte strChar rawChar unskipped skipped slashed strCommon rawStr turn joined turns items itemsOf flat
+rules-out-other-need u = let z : _≡_ {A = ℕ} 3 2 = u .answer .also-is in omega arith

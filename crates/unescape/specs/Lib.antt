@@ -1,0 +1,7 @@
+pub mod Modes
+pub mod Errors
+pub mod Escapes
+pub mod Bodies
+pub mod Steps
+pub mod Outcome
+pub mod Order

@@ -1,0 +1,240 @@
+// The characters of a body, and what each gives.
+ghost use mathlib.Core.Path.{_≡_};
+ghost use mathlib.Core.Bool.{false};
+ghost use Prim.Native.Nat.{_≤_, _<_};
+ghost use lib.ListN.{length};
+ghost use Rattle.lists.specs.Eat.{eat};
+ghost use Rattle.unicode.specs.Text.{Ate, left};
+ghost use Rattle.unescape.specs.Bodies.{isEscapeOnly, oneChar, charOrByte, strChar, isSkipped, sawLf, skipped, slashed, strCommon, rawStr, turn};
+ghost use Rattle.unescape.specs.Steps.{endOf, errorOf, escapeAt, stepOf, Scanned, Behind, onFirst, Stepped};
+use crate::errors;
+use crate::escapes::Escape;
+use crate::escapes::ascii_check;
+use crate::escapes::scan_escape;
+use crate::modes::is_ascii_only;
+use crate::modes::is_raw;
+use unicode::properties::is_white_space;
+use unicode::utf8::NO_CHAR;
+use unicode::utf8::decode;
+
+// What a turn over a body gives: an item up to `at`, where there is one; warning 21 up to `past`, where it is given; and the
+// place behind, `at`.
+pub struct Step {
+    pub at: usize,
+    pub some: bool,
+    pub outcome: u32,
+    pub space: bool,
+    pub past: usize,
+}
+
+// Where a run of white space ends, and whether it holds a newline.
+struct Spaces {
+    at: usize,
+    lines: bool,
+}
+
+fn error_of(read: Escape) -> u32
+    ensures { λ r. ⌜ r ≡ errorOf read ⌝ }
+{
+    match read {
+        Escape::Value(_, _) => 0,
+        Escape::Error(error, _) => error,
+    }
+}
+
+fn end_of(read: Escape) -> usize
+    ensures { λ r. ⌜ r ≡ endOf read ⌝ }
+{
+    match read {
+        Escape::Value(_, end) => end,
+        Escape::Error(_, end) => end,
+    }
+}
+
+// One item, by what was scanned.
+pub fn item(read: Escape) -> Step
+    requires { ⌜ errorOf read ≤ 22 ⌝ }
+    ensures { λ r. ⌜ r ≡ stepOf read ⌝ }
+{
+    let Escape::Value(code, at) = read else {
+        let end = end_of(read);
+        return Step {
+            at: end,
+            some: true,
+            outcome: NO_CHAR + error_of(read),
+            space: false,
+            past: end,
+        };
+    };
+    Step {
+        at,
+        some: true,
+        outcome: code,
+        space: false,
+        past: at,
+    }
+}
+
+fn is_escape_only(c: u32) -> bool
+    ensures { λ r. ⌜ r ≡ isEscapeOnly c ⌝ }
+{
+    if c == 0x0A {
+        return true;
+    }
+    if c == 0x09 {
+        return true;
+    }
+    c == 0x27
+}
+
+// The character c, or its escape behind it.
+fn one_char(text: &[u8], c: u32, next: usize, is_byte: bool) -> Escape
+    requires { ⌜ next ≤ length (now text) ⌝ }
+    ensures { λ r. ⌜ Scanned (oneChar «is_byte» c) (now (text .entry)) next r ⌝ }
+{
+    if c == 0x5C {
+        return scan_escape(text, next, is_byte);
+    }
+    if is_escape_only(c) {
+        return Escape::Error(errors::ESCAPE_ONLY_CHAR, next);
+    }
+    if c == 0x0D {
+        return Escape::Error(errors::BARE_CARRIAGE_RETURN, next);
+    }
+    ascii_check(c, next, is_byte)
+}
+
+pub fn unescape_char_or_byte(text: &[u8], is_byte: bool) -> Escape
+    ensures { λ r. ⌜ Scanned (charOrByte «is_byte») (now (text .entry)) 0 r ⌝ }
+{
+    if text.len() == 0 {
+        return Escape::Error(errors::ZERO_CHARS, 0);
+    }
+    let d = decode(text, 0);
+    let first = one_char(text, d.code, d.wide, is_byte);
+    let Escape::Value(code, end) = first else {
+        return first;
+    };
+    if end < text.len() {
+        let second = decode(text, end);
+        return Escape::Error(errors::MORE_THAN_ONE_CHAR, end + second.wide);
+    }
+    Escape::Value(code, end)
+}
+
+// A character of Str, BitStr or ByteStr that is no backslash. LF and tab are as any other.
+fn str_char(c: u32, end: usize, is_byte: bool) -> Escape
+    ensures { λ r. ⌜ r ≡ escapeAt (strChar «is_byte» c) end ⌝ }
+{
+    match c {
+        0x22 => Escape::Error(errors::ESCAPE_ONLY_CHAR, end),
+        0x0D => Escape::Error(errors::BARE_CARRIAGE_RETURN, end),
+        _ => ascii_check(c, end, is_byte),
+    }
+}
+
+// Behind a backslash.
+fn slash(text: &[u8], at: usize, is_byte: bool) -> Step
+    requires { ⌜ at ≤ length (now text) ⌝ }
+    ensures { λ r. ⌜ Behind (λ from. slashed (length (now (text .entry))) «is_byte» from (left (now (text .entry)) at)) (now (text .entry)) at r ⌝ }
+{
+    let d = decode(text, at);
+    if d.code == 0x0A {
+        return skip_ascii_whitespace(text, at + d.wide);
+    }
+    item(scan_escape(text, at, is_byte))
+}
+
+// One turn over a body of Str, BitStr or ByteStr.
+fn unescape_str_common(text: &[u8], at: usize, is_byte: bool) -> Step
+    requires { ⌜ at < length (now text) ⌝ }
+    ensures { λ r. ⌜ Stepped (onFirst (strCommon (length (now (text .entry))) «is_byte») (left (now (text .entry)) at)) (now (text .entry)) at r ⌝ }
+{
+    let d = decode(text, at);
+    let next = at + d.wide;
+    if d.code == 0x5C {
+        return slash(text, next, is_byte);
+    }
+    item(str_char(d.code, next, is_byte))
+}
+
+fn is_skipped(c: u32) -> bool
+    ensures { λ r. ⌜ r ≡ isSkipped c ⌝ }
+{
+    if c == 0x20 {
+        return true;
+    }
+    if c == 0x09 {
+        return true;
+    }
+    if c == 0x0A {
+        return true;
+    }
+    c == 0x0D
+}
+
+fn saw_lf(lines: bool, c: u32) -> bool
+    ensures { λ r. ⌜ r ≡ sawLf lines c ⌝ }
+{
+    if lines {
+        return true;
+    }
+    c == 0x0A
+}
+
+fn eat_skipped(text: &[u8], from: usize) -> Spaces
+    requires { ⌜ from ≤ length (now text) ⌝ }
+    ensures { λ r. ⌜ Ate isSkipped sawLf (now (text .entry)) from false (r .at) (r .lines) ⌝ }
+{
+    let mut at = from;
+    let mut lines = false;
+    while at < text.len() {
+        let d = decode(text, at);
+        if !is_skipped(d.code) {
+            return Spaces { at, lines };
+        }
+        lines = saw_lf(lines, d.code);
+        at = at + d.wide;
+    }
+    Spaces { at, lines }
+}
+
+// Behind a backslash and a newline. A text's end is no white space.
+fn skip_ascii_whitespace(text: &[u8], at: usize) -> Step
+    requires { ⌜ at ≤ length (now text) ⌝ }
+    ensures { λ r. ⌜ Behind (λ from. skipped (length (now (text .entry))) from (eat isSkipped sawLf false (left (now (text .entry)) at))) (now (text .entry)) at r ⌝ }
+{
+    let spaces = eat_skipped(text, at);
+    let d = decode(text, spaces.at);
+    Step {
+        at: spaces.at,
+        some: spaces.lines,
+        outcome: NO_CHAR + errors::MULTIPLE_SKIPPED_LINES_WARNING,
+        space: is_white_space(d.code),
+        past: spaces.at + d.wide,
+    }
+}
+
+// One turn over a body of RawStr or RawByteStr.
+fn unescape_raw_str_or_raw_byte_str(text: &[u8], at: usize, is_byte: bool) -> Step
+    requires { ⌜ at < length (now text) ⌝ }
+    ensures { λ r. ⌜ Stepped (onFirst (rawStr (length (now (text .entry))) «is_byte») (left (now (text .entry)) at)) (now (text .entry)) at r ⌝ }
+{
+    let d = decode(text, at);
+    let next = at + d.wide;
+    if d.code == 0x0D {
+        return item(Escape::Error(errors::BARE_CARRIAGE_RETURN_IN_RAW_STRING, next));
+    }
+    item(ascii_check(d.code, next, is_byte))
+}
+
+// One turn over a body of any mode but Char and Byte.
+pub fn turn(text: &[u8], at: usize, mode: u32) -> Step
+    requires { ⌜ at < length (now text) ⌝ }
+    ensures { λ r. ⌜ Stepped (onFirst (turn (length (now (text .entry))) mode) (left (now (text .entry)) at)) (now (text .entry)) at r ⌝ }
+{
+    if is_raw(mode) {
+        return unescape_raw_str_or_raw_byte_str(text, at, is_ascii_only(mode));
+    }
+    unescape_str_common(text, at, is_ascii_only(mode))
+}

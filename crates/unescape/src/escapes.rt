@@ -1,0 +1,323 @@
+// Escapes: what stands behind a backslash.
+ghost use mathlib.Core.Path.{_≡_};
+ghost use Prim.Native.Nat.{_+_, _≤_, _<_};
+ghost use lib.ListN.{length};
+ghost use Rattle.unicode.specs.Text.{Ate};
+ghost use Rattle.unescape.specs.Escapes.{toDigit, hexDigit, hexEscape, firstDigit, orUnderscore, counted, valued, addDigit, codePoint, closing, braced, unicodeEscape, simple, escape, asciiCheck};
+ghost use Rattle.unescape.specs.Steps.{escapeAt, valueOf, Scanned};
+use crate::errors;
+use unicode::utf8::decode;
+
+// What a scan found, a character or an error, and the place behind what it read.
+pub enum Escape {
+    Value(u32, usize),
+    Error(u32, usize),
+}
+
+// The digits of `\u{..}`: how many, the value of the first six, and the place behind them. No text has so many that the count
+// wraps.
+struct Digits {
+    count: usize,
+    value: u32,
+    at: usize,
+}
+
+// What is no digit.
+const NO_DIGIT: u8 = 16;
+
+// The digits' values, from `0` to `f`.
+const DIGITS: [u8; 55] = [
+    0,
+    1,
+    2,
+    3,
+    4,
+    5,
+    6,
+    7,
+    8,
+    9,
+    16,
+    16,
+    16,
+    16,
+    16,
+    16,
+    16,
+    10,
+    11,
+    12,
+    13,
+    14,
+    15,
+    16,
+    16,
+    16,
+    16,
+    16,
+    16,
+    16,
+    16,
+    16,
+    16,
+    16,
+    16,
+    16,
+    16,
+    16,
+    16,
+    16,
+    16,
+    16,
+    16,
+    16,
+    16,
+    16,
+    16,
+    16,
+    16,
+    10,
+    11,
+    12,
+    13,
+    14,
+    15,
+];
+
+fn digit_from_0(i: usize) -> u8
+    requires { ⌜ i < 55 ⌝ }
+    ensures { λ r. ⌜ r ≡ toDigit (i + 0x30) ⌝ }
+{
+    DIGITS[i]
+}
+
+fn to_digit(c: u32) -> u8
+    ensures { λ r. ⌜ r ≡ toDigit c ⌝ }
+{
+    if c < 0x30 {
+        return NO_DIGIT;
+    }
+    if 0x66 < c {
+        return NO_DIGIT;
+    }
+    digit_from_0((c - 0x30) as usize)
+}
+
+// The escapes of one character.
+fn simple(c: u32, end: usize) -> Escape
+    ensures { λ r. ⌜ r ≡ escapeAt (simple c) end ⌝ }
+{
+    match c {
+        0x22 => Escape::Value(0x22, end),
+        0x6E => Escape::Value(0x0A, end),
+        0x72 => Escape::Value(0x0D, end),
+        0x74 => Escape::Value(0x09, end),
+        0x5C => Escape::Value(0x5C, end),
+        0x27 => Escape::Value(0x27, end),
+        0x30 => Escape::Value(0x00, end),
+        _ => Escape::Error(errors::INVALID_ESCAPE, end),
+    }
+}
+
+fn hex_digit(text: &[u8], at: usize) -> Escape
+    requires { ⌜ at ≤ length (now text) ⌝ }
+    ensures { λ r. ⌜ (Scanned hexDigit (now (text .entry)) at r) × (valueOf r < 16) ⌝ }
+{
+    if text.len() <= at {
+        return Escape::Error(errors::TOO_SHORT_HEX_ESCAPE, at);
+    }
+    let d = decode(text, at);
+    let digit = to_digit(d.code);
+    if NO_DIGIT <= digit {
+        return Escape::Error(errors::INVALID_CHAR_IN_HEX_ESCAPE, at + d.wide);
+    }
+    Escape::Value(digit as u32, at + d.wide)
+}
+
+// Behind `\x`.
+fn scan_hex(text: &[u8], at: usize) -> Escape
+    requires { ⌜ at ≤ length (now text) ⌝ }
+    ensures { λ r. ⌜ Scanned hexEscape (now (text .entry)) at r ⌝ }
+{
+    let first = hex_digit(text, at);
+    let Escape::Value(hi, next) = first else {
+        return first;
+    };
+    let second = hex_digit(text, next);
+    let Escape::Value(lo, end) = second else {
+        return second;
+    };
+    Escape::Value(hi * 16 + lo, end)
+}
+
+// Behind a backslash.
+pub fn scan_escape(text: &[u8], at: usize, is_byte: bool) -> Escape
+    requires { ⌜ at ≤ length (now text) ⌝ }
+    ensures { λ r. ⌜ Scanned (escape «is_byte») (now (text .entry)) at r ⌝ }
+{
+    if text.len() <= at {
+        return Escape::Error(errors::LONE_SLASH, at);
+    }
+    let d = decode(text, at);
+    let next = at + d.wide;
+    if d.code == 0x78 {
+        return scan_hex(text, next);
+    }
+    if d.code == 0x75 {
+        return scan_unicode(text, next, is_byte);
+    }
+    simple(d.code, next)
+}
+
+// The first digit of `\u{..}`.
+fn first_digit(text: &[u8], at: usize) -> Escape
+    requires { ⌜ at ≤ length (now text) ⌝ }
+    ensures { λ r. ⌜ (Scanned firstDigit (now (text .entry)) at r) × (valueOf r < 16) ⌝ }
+{
+    if text.len() <= at {
+        return Escape::Error(errors::UNCLOSED_UNICODE_ESCAPE, at);
+    }
+    let d = decode(text, at);
+    let next = at + d.wide;
+    if d.code == 0x5F {
+        return Escape::Error(errors::LEADING_UNDERSCORE_UNICODE_ESCAPE, next);
+    }
+    if d.code == 0x7D {
+        return Escape::Error(errors::EMPTY_UNICODE_ESCAPE, next);
+    }
+    let digit = to_digit(d.code);
+    if NO_DIGIT <= digit {
+        return Escape::Error(errors::INVALID_CHAR_IN_UNICODE_ESCAPE, next);
+    }
+    Escape::Value(digit as u32, next)
+}
+
+fn is_digit_or_underscore(c: u32) -> bool
+    ensures { λ r. ⌜ r ≡ orUnderscore c ⌝ }
+{
+    if c == 0x5F {
+        return true;
+    }
+    to_digit(c) < NO_DIGIT
+}
+
+fn count_digit(count: usize, c: u32) -> usize
+    requires { ⌜ count < 18446744073709551615 ⌝ }
+    ensures { λ r. ⌜ r ≡ counted count c ⌝ }
+{
+    if c == 0x5F {
+        return count;
+    }
+    count + 1
+}
+
+// From the seventh digit on the value is no longer asked for, and so it stays below 2^24.
+fn add_digit(count: usize, value: u32, c: u32) -> u32
+    requires { ⌜ (count < 6 → value < 1048576) ⌝ }
+    ensures { λ r. ⌜ r ≡ valued count value c ⌝ }
+{
+    if c == 0x5F {
+        return value;
+    }
+    if 6 <= count {
+        return value;
+    }
+    value * 16 + to_digit(c) as u32
+}
+
+// Behind a first digit.
+fn more_digits(text: &[u8], from: usize, first: u32) -> Digits
+    requires { ⌜ (from ≤ length (now text)) × (first < 16) ⌝ }
+    ensures { λ r. ⌜ Ate orUnderscore addDigit (now (text .entry)) from (1, first) (r .at) (r .count, r .value) ⌝ }
+{
+    let mut at = from;
+    let mut count: usize = 1;
+    let mut value = first;
+    while at < text.len() {
+        let d = decode(text, at);
+        if !is_digit_or_underscore(d.code) {
+            return Digits { count, value, at };
+        }
+        value = add_digit(count, value, d.code);
+        count = count_digit(count, d.code);
+        at = at + d.wide;
+    }
+    Digits { count, value, at }
+}
+
+// Wrong syntax comes before a value that the literal can't hold.
+fn code_point(count: usize, value: u32, end: usize, is_byte: bool) -> Escape
+    ensures { λ r. ⌜ r ≡ escapeAt (codePoint «is_byte» count value) end ⌝ }
+{
+    if 6 < count {
+        return Escape::Error(errors::OVERLONG_UNICODE_ESCAPE, end);
+    }
+    if is_byte {
+        return Escape::Error(errors::UNICODE_ESCAPE_IN_BYTE, end);
+    }
+    if 0x10FFFF < value {
+        return Escape::Error(errors::OUT_OF_RANGE_UNICODE_ESCAPE, end);
+    }
+    if value < 0xD800 {
+        return Escape::Value(value, end);
+    }
+    if 0xE000 <= value {
+        return Escape::Value(value, end);
+    }
+    Escape::Error(errors::LONE_SURROGATE_UNICODE_ESCAPE, end)
+}
+
+// Behind the digits of `\u{..}`.
+fn closing_brace(text: &[u8], at: usize, count: usize, value: u32, is_byte: bool) -> Escape
+    requires { ⌜ at ≤ length (now text) ⌝ }
+    ensures { λ r. ⌜ Scanned (closing «is_byte» (count, value)) (now (text .entry)) at r ⌝ }
+{
+    if text.len() <= at {
+        return Escape::Error(errors::UNCLOSED_UNICODE_ESCAPE, at);
+    }
+    let d = decode(text, at);
+    let next = at + d.wide;
+    if d.code != 0x7D {
+        return Escape::Error(errors::INVALID_CHAR_IN_UNICODE_ESCAPE, next);
+    }
+    code_point(count, value, next, is_byte)
+}
+
+// Behind `\u{`.
+fn scan_braced(text: &[u8], at: usize, is_byte: bool) -> Escape
+    requires { ⌜ at ≤ length (now text) ⌝ }
+    ensures { λ r. ⌜ Scanned (braced «is_byte») (now (text .entry)) at r ⌝ }
+{
+    let first = first_digit(text, at);
+    let Escape::Value(digit, next) = first else {
+        return first;
+    };
+    let digits = more_digits(text, next, digit);
+    closing_brace(text, digits.at, digits.count, digits.value, is_byte)
+}
+
+// Behind `\u`.
+fn scan_unicode(text: &[u8], at: usize, is_byte: bool) -> Escape
+    requires { ⌜ at ≤ length (now text) ⌝ }
+    ensures { λ r. ⌜ Scanned (unicodeEscape «is_byte») (now (text .entry)) at r ⌝ }
+{
+    let d = decode(text, at);
+    let next = at + d.wide;
+    if d.code != 0x7B {
+        return Escape::Error(errors::NO_BRACE_IN_UNICODE_ESCAPE, next);
+    }
+    scan_braced(text, next, is_byte)
+}
+
+// A character that stands for itself.
+pub fn ascii_check(c: u32, end: usize, is_byte: bool) -> Escape
+    ensures { λ r. ⌜ r ≡ escapeAt (asciiCheck «is_byte» c) end ⌝ }
+{
+    if !is_byte {
+        return Escape::Value(c, end);
+    }
+    if c < 0x80 {
+        return Escape::Value(c, end);
+    }
+    Escape::Error(errors::NON_ASCII_CHAR_IN_BYTE, end)
+}
