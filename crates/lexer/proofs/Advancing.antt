@@ -20,8 +20,8 @@ stands d l u =
     let c = decoded-point d l in
     rw u (record { order = omega (arith, c .some); within = c .within; view = c .view })
 
-pub in-front : {s : List ℕ} {at code wide next : ℕ} → Decoded s at code wide → at < length s → next ≡ at + wide → left s at ≡ code ∷ left s next
-in-front d l u = rw u (decoded-point d l .view)
+pub in-front : {s : List ℕ} {at c next : ℕ} → Stands s at c next → left s at ≡ c ∷ left s next
+in-front v = v .view
 
 module _ (u : Letters) (profile : ℕ) {s : List ℕ} {at c next : ℕ} (v : Stands s at c next) where
   cuts : {kind mark end : ℕ} (a : Token) → advance u profile c (left s next) ≡ a → kind ≡ a .kind → Place s at mark (a .mark) → Place s next end (a .rest) → Cuts u profile s at kind mark end
@@ -55,9 +55,9 @@ module _ (u : Letters) (profile : ℕ) {s : List ℕ} {at c next : ℕ} (v : Sta
   cut-space n o t p k =
       cuts (record { kind = whitespaceKind; mark = c ∷ left s next; rest = skip isWhitespace (left s next) }) (rw (ne-eqb c 0x2F n, sym o ∙ t)) k own p
 
-  pub cut-word : {kind end : ℕ} {b b′ : Bool} → (c ≡ 0x2F → ⊥) → b ≡ isWhitespace c → b ≡ false → b′ ≡ u .start c → b′ ≡ true → Parted (word u profile c) s next kind end → Cuts u profile s at kind at end
+  pub cut-word : {kind end : ℕ} {b : Bool} → (c ≡ 0x2F → ⊥) → isWhitespace c ≡ false → b ≡ u .start c → b ≡ true → Parted (word u profile c) s next kind end → Cuts u profile s at kind at end
   unfolding advance
-  cut-word n o t o′ t′ p = part (rw (ne-eqb c 0x2F n, sym o ∙ t, sym o′ ∙ t′)) p
+  cut-word n h o t p = part (rw (ne-eqb c 0x2F n, h, sym o ∙ t)) p
 
   module _ (y : Later u c) where
     pub cut-number : {kind mark end : ℕ} → isDigit c ≡ true → Parted (number c) s next kind mark → Place s mark end (suffix u (left s mark)) → Cuts u profile s at kind mark end
@@ -129,8 +129,11 @@ digit-yes c o t = sym o ∙ t
 pub digit-no : (c : ℕ) {b : Bool} → b ≡ isDigit c → b ≡ false → isDigit c ≡ false
 digit-no c o t = sym o ∙ t
 
-pub later : {u : Letters} {c : ℕ} {b b′ : Bool} → (c ≡ 0x2F → ⊥) → b ≡ isWhitespace c → b ≡ false → b′ ≡ u .start c → b′ ≡ false → Later u c
-later n o t o′ t′ = record { no-slash = n; no-space = sym o ∙ t; no-name = sym o′ ∙ t′ }
+pub space-no : (c : ℕ) {b : Bool} → b ≡ isWhitespace c → b ≡ false → isWhitespace c ≡ false
+space-no c o t = sym o ∙ t
+
+pub later : {u : Letters} {c : ℕ} {b : Bool} → (c ≡ 0x2F → ⊥) → isWhitespace c ≡ false → b ≡ u .start c → b ≡ false → Later u c
+later n h o t = record { no-slash = n; no-space = h; no-name = sym o ∙ t }
 
 pub advanced : {u : Letters} {profile : ℕ} {s : List ℕ} {at kind mark end : ℕ} → at < length s → Cuts u profile s at kind mark end → Advanced u profile s at kind mark end
 advanced l c = record { before-end = λ h. c; at-end = λ h. absurd (omega arith) }
@@ -138,7 +141,7 @@ advanced l c = record { before-end = λ h. c; at-end = λ h. absurd (omega arith
 pub none-at-end : {u : Letters} {profile : ℕ} {s : List ℕ} {at kind mark end : ℕ} → length s ≤ at → kind ≡ eof → mark ≡ at → end ≡ at → Advanced u profile s at kind mark end
 none-at-end l k m e = record { before-end = λ h. absurd (omega arith); at-end = λ h. (k, m, e) }
 
-pub ruleset advancing = (stands, in-front, cut-slash, cut-space, cut-word, cut-number, cut-pound, cut-annotated, cut-hardware, cut-closed, cut-unclosed, cut-mark, cut-emoji, cut-unknown, digit-yes, digit-no, later, advanced, none-at-end)
+pub ruleset advancing = (stands, in-front, cut-slash, cut-space, cut-word, cut-number, cut-pound, cut-annotated, cut-hardware, cut-closed, cut-unclosed, cut-mark, cut-emoji, cut-unknown, digit-yes, digit-no, space-no, later, advanced, none-at-end)
 
 -- ---- what `advance_token` says of places, at every place: rules for `omega`
 module _ (u : Letters) (profile : ℕ) (s : List ℕ) (at kind mark end : ℕ) (a : Advanced u profile s at kind mark end) where

@@ -50,11 +50,15 @@ no-pair : (t b : Bool) → t ≡ (t || (b && false))
 no-pair t b = rw (and-false b) (sym (or-false t))
 
 module _ (plain two : Bool) (lines prev : ℕ) {c : ℕ} where
-  pub added-bit : c ≡ 0x30 → lines ≤ 2 → Added c plain lines two prev plain lines two c
-  added-bit e l = rw e (record { plain-is = sym (and-true plain); lines-is = omega arith; twice-is = no-pair two (eqb prev 0x5F); prev-is = refl })
+  added-of : (k : ℕ) → (eqb k 0x0A || isBit k) ≡ true → eqb k 0x0A ≡ false → eqb k 0x5F ≡ false → c ≡ k → lines ≤ 2 → Added c plain lines two prev plain lines two c
+  added-of k p q r e l =
+      rw e (record { plain-is = rw p (sym (and-true plain)); lines-is = rw q (omega arith); twice-is = rw r (no-pair two (eqb prev 0x5F)); prev-is = refl })
+
+  pub added-zero : c ≡ 0x30 → lines ≤ 2 → Added c plain lines two prev plain lines two c
+  added-zero = added-of 0x30 refl refl refl
 
   pub added-one : c ≡ 0x31 → lines ≤ 2 → Added c plain lines two prev plain lines two c
-  added-one e l = rw e (record { plain-is = sym (and-true plain); lines-is = omega arith; twice-is = no-pair two (eqb prev 0x5F); prev-is = refl })
+  added-one = added-of 0x31 refl refl refl
 
   pub added-low : {two′ : Bool} → c ≡ 0x5F → lines ≤ 2 → two′ ≡ (two || (eqb prev 0x5F && eqb c 0x5F)) → Added c plain lines two prev plain lines two′ c
   added-low {two′} e l h =
@@ -75,7 +79,7 @@ module _ (plain two : Bool) (lines prev : ℕ) {c : ℕ} where
         prev-is = refl;
       }
 
-pub ruleset adding = (added-bit, added-one, added-low, added-line, added-other)
+pub ruleset adding = (added-zero, added-one, added-low, added-line, added-other)
 
 -- ---- what the loop has seen, of the text so far
 unfoldable allPlain : List ℕ → Bool

@@ -5,7 +5,7 @@ use native.Mathlib.Omega.{arith}
 use native.Mathlib.Nat.{zero-add}
 use native.Mathlib.Decide.{decLt}
 use mathlib.Core.Path.{_≡_, refl, ap, sym, _∙_}
-use mathlib.Core.Bool.{Bool, true, false, not, _&&_}
+use mathlib.Core.Bool.{Bool, true, false, not, cond, _&&_}
 use mathlib.Core.List.{List, [], _∷_, nil≢cons}
 use lib.Dec.{eqb}
 use lib.ListN.{length}
@@ -23,6 +23,7 @@ use Rattle.lexer.specs.Cut.{Letters}
 use Rattle.lexer.specs.Unicode.{startIn, moreIn, unicode}
 use Rattle.lexer.specs.Outcome.{identified}
 use Rattle.lexer.proofs.Unicode.{lent-is}
+use Rattle.lexer.proofs.Flags.{pick-yes, pick-no}
 
 -- ---- all pass where nothing is left
 module _ (p : ℕ → Bool) where
@@ -75,12 +76,8 @@ module _ (s : List ℕ) {number also : ℕ} where
   unfolding identified
   identified-refused a h = rw (ne-eqb (checkText s .0) done (λ e. h (a .number-is ∙ e))) a
 
-  pub identified-yes : {n k : ℕ} {b : Bool} → Answered (checkText s) n k → n ≡ done → b ≡ isIdent (chars s) → b ≡ true → number ≡ done → also ≡ 1 → Answered (identified s) number also
+  pub identified-done : {n k : ℕ} {b : Bool} → Answered (checkText s) n k → n ≡ done → b ≡ isIdent (chars s) → number ≡ done → also ≡ cond b 1 0 → Answered (identified s) number also
   unfolding identified
-  identified-yes a z e t p q = rw (eq-eqb (checkText s .0) done (sym (a .number-is) ∙ z), ← e, t) (record { number-is = p; also-is = q })
+  identified-done a z e p q = rw (eq-eqb (checkText s .0) done (sym (a .number-is) ∙ z), ← e) (record { number-is = p; also-is = q })
 
-  pub identified-no : {n k : ℕ} {b : Bool} → Answered (checkText s) n k → n ≡ done → b ≡ isIdent (chars s) → b ≡ false → number ≡ done → also ≡ 0 → Answered (identified s) number also
-  unfolding identified
-  identified-no a z e t p q = rw (eq-eqb (checkText s .0) done (sym (a .number-is) ∙ z), ← e, t) (record { number-is = p; also-is = q })
-
-pub ruleset identifying = (ident-none, ident-not, ident-by, identified-refused, identified-yes, identified-no)
+pub ruleset identifying = (ident-none, ident-not, ident-by, identified-refused, identified-done, pick-yes, pick-no)

@@ -1,7 +1,7 @@
 pub mod Chars
 pub mod Unicode
-pub mod Ident
 pub mod Flags
+pub mod Ident
 pub mod Steps
 pub mod Bytewise
 pub mod Blocks

@@ -8,18 +8,13 @@ use mathlib.Core.List.{List, [], _∷_, tail}
 use lib.Dec.{eqb, leb}
 use Rattle.lists.specs.All.{all}
 use Rattle.lists.specs.Ends.{Ends}
-use Rattle.lists.proofs.Bools.{by-test, both}
+use Rattle.lists.proofs.Bools.{by-test, both, on-cond}
 use Rattle.lists.proofs.Cut.{cut-nil, cut-cons}
 use Rattle.lists.proofs.Ends.{ends-all, ends-cons, ends-then, ends-tail, ends-drop, ends-eat, ends-length}
 use Rattle.unicode.specs.Text.{skip, keep}
 use Rattle.lexer.specs.Chars.{isWhitespace}
 use Rattle.lexer.specs.Kinds.{marks, markIn, isPlain, isLiteral, int, float, bitStr}
 use Rattle.lexer.specs.Cut.{Letters, Token, Quote, peek, notLf, isDigit, isHexDigit, isE, orUnderscore, met, opens, closes, block, slash, digits, exponent, exponentOf, point, fraction, based, number, isUnit, escapes, quoted, quoteKind, isBit, withoutLf, twice, pragmaWord, agree, pound, wideEmoji, goesOn, name, word, annotated, hardware, identifier, suffix, advance, piece, tokens}
-
--- what holds of both, holds of the chosen one
-pub on-cond : {A : Type 0} (P : A → Type 0) (b : Bool) {x y : A} → P x → P y → P (cond b x y)
-on-cond P true p q = p
-on-cond P false p q = q
 
 ends-skip : (p : ℕ → Bool) (l : List ℕ) → Ends (skip p l) l
 unfolding skip

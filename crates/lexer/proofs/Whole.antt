@@ -142,10 +142,6 @@ module _ {u : Letters} {profile : ℕ} {s list list′ : List ℕ} {n number als
         words = rw k (w .words);
       }
 
--- a list that was not written is as it was, and has room where the count says so
-pub unwritten : {u : Letters} {profile : ℕ} {s list list′ : List ℕ} {n : ℕ} → Walked u profile s false list n list′ → list′ ≡ list
-unwritten w = w .words
-
 pub room-counted : {u : Letters} {profile : ℕ} {s list list′ : List ℕ} {n : ℕ} → Walked u profile s false list n list′ → n ≤ length list′ / 3 → length (flat (tokens u profile (chars s))) ≤ length list′
 room-counted {u} {profile} {s} w l = omega (arith, length-flat (tokens u profile (chars s)), w .count, l)
 

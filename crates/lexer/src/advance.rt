@@ -3,6 +3,7 @@ ghost use mathlib.Core.Path.{_≡_};
 ghost use mathlib.Core.Bool.{true, false};
 ghost use Prim.Native.Nat.{_<_};
 ghost use lib.ListN.{length};
+ghost use Rattle.lexer.specs.Chars.{isWhitespace};
 ghost use Rattle.lexer.specs.Cut.{isDigit};
 ghost use Rattle.lexer.specs.Kinds.{marks, markIn};
 ghost use Rattle.lexer.specs.Unicode.{lent};
@@ -14,8 +15,8 @@ use crate::cursor::is_id_start_in;
 use crate::cursor::is_wide_emoji;
 use crate::is_whitespace;
 use crate::kinds;
-use crate::numbers::eat_identifier;
 use crate::numbers::eat_literal_suffix;
+use crate::numbers::has_timing_or_imaginary_suffix;
 use crate::numbers::number;
 use crate::quotes::double_quoted_string;
 use crate::words::annotation;
@@ -79,7 +80,7 @@ fn string(
 {
     let q = double_quoted_string(text, next);
     if q.closed {
-        let end = eat_identifier(text, Cursor { at: q.at }, start, more, emoji);
+        let end = eat_literal_suffix(text, Cursor { at: q.at }, start, more, emoji);
         return Piece {
             kind: q.kind,
             mark: q.at,
@@ -93,7 +94,7 @@ fn string(
     }
 }
 
-// A number, behind its first digit.
+// A number, behind its first digit. A unit is a token of its own.
 fn numeral(
     text: &[u8],
     at: usize,
@@ -108,7 +109,15 @@ fn numeral(
     ensures { λ r. ⌜ Cuts (lent (now (start .entry)) (now (more .entry)) (now (emoji .entry))) profile (now (text .entry)) at (r .kind) (r .mark) (r .end) ⌝ }
 {
     let n = number(text, next, c);
-    let end = eat_literal_suffix(text, Cursor { at: n.at }, start, more, emoji);
+    let behind = Cursor { at: n.at };
+    if has_timing_or_imaginary_suffix(text, behind) {
+        return Piece {
+            kind: n.kind,
+            mark: n.at,
+            end: n.at,
+        };
+    }
+    let end = eat_literal_suffix(text, behind, start, more, emoji);
     Piece {
         kind: n.kind,
         mark: n.at,
@@ -221,6 +230,32 @@ fn other(
     sigil(text, at, c, next, profile, start, more, emoji)
 }
 
+// An identifier, and what begins none.
+fn named(
+    text: &[u8],
+    at: usize,
+    c: u32,
+    next: Cursor,
+    profile: u32,
+    start: &[u32],
+    more: &[u32],
+    emoji: &[u32],
+) -> Piece
+    requires { ⌜ (Stands (now text) at c (next .at)) × (c ≡ 0x2F → ⊥) × (isWhitespace c ≡ false) ⌝ }
+    ensures { λ r. ⌜ Cuts (lent (now (start .entry)) (now (more .entry)) (now (emoji .entry))) profile (now (text .entry)) at (r .kind) (r .mark) (r .end) ⌝ }
+{
+    if is_id_start_in(start, c) {
+        let own = Cursor { at };
+        let p = ident_or_unknown_prefix(text, own, c, next, profile, start, more, emoji);
+        return Piece {
+            kind: p.kind,
+            mark: at,
+            end: p.at,
+        };
+    }
+    other(text, at, c, next, profile, start, more, emoji)
+}
+
 // The token at a place before the end.
 fn advance(
     text: &[u8],
@@ -251,24 +286,7 @@ fn advance(
             end: end.at,
         };
     }
-    if is_id_start_in(start, d.code) {
-        let p = ident_or_unknown_prefix(
-            text,
-            Cursor { at },
-            d.code,
-            next,
-            profile,
-            start,
-            more,
-            emoji,
-        );
-        return Piece {
-            kind: p.kind,
-            mark: at,
-            end: p.at,
-        };
-    }
-    other(text, at, d.code, next, profile, start, more, emoji)
+    named(text, at, d.code, next, profile, start, more, emoji)
 }
 
 // The token at any place, over tables of the letters that are lent; at or past the end there is none.

@@ -26,12 +26,3 @@ pub const DOLLAR: u32 = 24;
 pub const SLASH: u32 = 34;
 
 pub const UNKNOWN: u32 = 37;
-
-// Twice the place of each base.
-pub const BINARY: u32 = 0;
-
-pub const OCTAL: u32 = 2;
-
-pub const DECIMAL: u32 = 4;
-
-pub const HEXADECIMAL: u32 = 6;

@@ -6,7 +6,7 @@ ghost use Prim.Native.Nat.{_≤_};
 ghost use lib.Dec.{eqb};
 ghost use lib.ListN.{length};
 ghost use Rattle.unicode.specs.Text.{Place, left};
-ghost use Rattle.lexer.specs.Cut.{peek, isE, exponent, exponentOf, point, fraction, based, number, isUnit, identifier, suffix};
+ghost use Rattle.lexer.specs.Cut.{peek, isE, exponent, exponentOf, point, fraction, based, number, isUnit, identifier};
 ghost use Rattle.lexer.specs.Unicode.{lent};
 ghost use Rattle.lexer.specs.Steps.{Parted, Flagged};
 use crate::comments::Part;
@@ -151,7 +151,7 @@ fn is_unit(x: u32, y: u32) -> bool
     }
 }
 
-fn has_timing_or_imaginary_suffix(text: &[u8], from: Cursor) -> bool
+pub fn has_timing_or_imaginary_suffix(text: &[u8], from: Cursor) -> bool
     requires { ⌜ from .at ≤ length (now text) ⌝ }
     ensures { λ r. ⌜ r ≡ isUnit (peek (left (now (text .entry)) (from .at))) (peek (tail (left (now (text .entry)) (from .at)))) ⌝ }
 {
@@ -160,13 +160,7 @@ fn has_timing_or_imaginary_suffix(text: &[u8], from: Cursor) -> bool
     is_unit(x, y)
 }
 
-pub fn eat_identifier(
-    text: &[u8],
-    from: Cursor,
-    start: &[u32],
-    more: &[u32],
-    emoji: &[u32],
-) -> Cursor
+fn eat_identifier(text: &[u8], from: Cursor, start: &[u32], more: &[u32], emoji: &[u32]) -> Cursor
     requires { ⌜ from .at ≤ length (now text) ⌝ }
     ensures { λ r. ⌜ Place (now (text .entry)) (from .at) (r .at) (identifier (lent (now (start .entry)) (now (more .entry)) (now (emoji .entry))) (left (now (text .entry)) (from .at))) ⌝ }
 {
@@ -176,7 +170,7 @@ pub fn eat_identifier(
     from.bump(text).eat_id_continue(text, more)
 }
 
-// A unit is a token of its own.
+// The suffix of a literal is an identifier.
 pub fn eat_literal_suffix(
     text: &[u8],
     from: Cursor,
@@ -185,10 +179,7 @@ pub fn eat_literal_suffix(
     emoji: &[u32],
 ) -> Cursor
     requires { ⌜ from .at ≤ length (now text) ⌝ }
-    ensures { λ r. ⌜ Place (now (text .entry)) (from .at) (r .at) (suffix (lent (now (start .entry)) (now (more .entry)) (now (emoji .entry))) (left (now (text .entry)) (from .at))) ⌝ }
+    ensures { λ r. ⌜ Place (now (text .entry)) (from .at) (r .at) (identifier (lent (now (start .entry)) (now (more .entry)) (now (emoji .entry))) (left (now (text .entry)) (from .at))) ⌝ }
 {
-    if has_timing_or_imaginary_suffix(text, from) {
-        return from;
-    }
     eat_identifier(text, from, start, more, emoji)
 }

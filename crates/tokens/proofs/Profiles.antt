@@ -9,7 +9,7 @@ use lib.Dec.{eqb}
 use lib.ListN.{length, take, drop, length-drop}
 use lib.Seq.{drop-drop}
 use borrow.Author.Tests.{eq-eqb, ne-eqb, eqb-true, eqb-false}
-use Rattle.lists.proofs.Bools.{by-test, and-false}
+use Rattle.lists.proofs.Bools.{by-test, and-false, on-cond}
 use Rattle.lists.proofs.Cut.{by-length}
 use Rattle.unicode.specs.Utf8.{first, chars, width}
 use Rattle.unicode.specs.Text.{bytes, skip}
@@ -22,7 +22,7 @@ use Rattle.lexer.specs.Kinds.{ident, invalidIdent, pragma}
 use Rattle.lexer.specs.Cut.{Letters, Tok, peek, notLf, agree, pragmaWord, wideEmoji, name, word, advance, piece, tokens}
 use Rattle.lexer.specs.Unicode.{unicode}
 use Rattle.lexer.specs.Outcome.{tokensOf}
-use Rattle.lexer.proofs.Shapes.{on-cond, name-part, tokens-nil}
+use Rattle.lexer.proofs.Shapes.{name-part, tokens-nil}
 use Rattle.tokens.specs.Tiling.{total}
 use Rattle.tokens.specs.Profiles.{bare, bareIn, pragmaLine, Parting}
 use Rattle.tokens.proofs.First.{tokens-first, first-some}

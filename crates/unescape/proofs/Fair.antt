@@ -1,49 +1,22 @@
 -- What every scan gives: an outcome that is given, and an end of the list that it was handed.
 -- Assumes nothing.
-use Prim.Native.Nat.{ℕ, _≤_}
-use native.Mathlib.Omega.{arith}
+use Prim.Native.Nat.{ℕ}
 use mathlib.Core.Path.{_≡_, refl}
 use mathlib.Core.Bool.{Bool, true, _&&_}
 use mathlib.Core.List.{List, [], _∷_}
-use lib.ListN.{length}
 use lib.Dec.{eqb, leb, ltb}
-use Rattle.lists.specs.Eat.{eat}
-use Rattle.lists.proofs.Bools.{by-test, on-cond}
-use Rattle.lists.proofs.Eat.{eat-more, eat-stop}
+use Rattle.lists.specs.Ends.{Ends}
+use Rattle.lists.proofs.Bools.{on-cond}
+use Rattle.lists.proofs.Ends.{ends-all, ends-cons, ends-then, ends-eat}
 use Rattle.unicode.specs.Utf8.{isScalar}
-use Rattle.unicode.specs.Text.{bytes}
 use Rattle.unescape.specs.Errors.{Outcome, char, error, isGiven}
 use Rattle.unescape.specs.Escapes.{_then_, isHex, hexDigit, hexEscape, firstDigit, moreDigits, orUnderscore, addDigit, codePoint, closing, braced, unicodeEscape, simple, escape, asciiCheck}
 use Rattle.unescape.specs.Bodies.{alone, isEscapeOnly, oneChar, charOrByte, strChar, rawChar}
 
--- ---- the ends of a list
-pub data Ends : List ℕ → List ℕ → Type 0 where
-  all : {l : List ℕ} → Ends l l
-  past : {c : ℕ} {t m : List ℕ} → Ends t m → Ends (c ∷ t) m
-
-pub ends-then : {l m n : List ℕ} → Ends l m → Ends m n → Ends l n
-ends-then all e = e
-ends-then (past d) e = past (ends-then d e)
-
-pub ends-length : {l m : List ℕ} → Ends l m → length m ≤ length l
-ends-length all = omega arith
-ends-length (past {c} {t} {m} e) = omega (arith, ends-length e)
-
-pub ends-bytes : {l m : List ℕ} → Ends l m → bytes m ≤ bytes l
-unfolding bytes
-ends-bytes all = omega arith
-ends-bytes (past {c} {t} {m} e) = omega (arith, ends-bytes e)
-
-pub eat-ends : {S : Type 0} (p : ℕ → Bool) (g : S → ℕ → S) (x : S) (l : List ℕ) → Ends l (eat p g x l .1)
-unfolding eat
-eat-ends p g x [] = all
-eat-ends p g x (c ∷ t) =
-    by-test (p c) (λ h. rw (eat-more p g x c t h) (past (eat-ends p g (g x c) t))) (λ h. rw (eat-stop p g x c t h) all)
-
 -- ---- scans
 pub record Fair (l : List ℕ) (x : Outcome × List ℕ) : Type 0 where
   pub given : isGiven (x .0) ≡ true
-  pub ends : Ends l (x .1)
+  pub ends : Ends (x .1) l
 
 then-fair : {l : List ℕ} (x : Outcome × List ℕ) (f : ℕ → List ℕ → Outcome × List ℕ) → Fair l x → ((v : ℕ) (t : List ℕ) → Fair t (f v t)) → Fair l (x then f)
 then-fair (char v, t) f a h = record { given = h v t .given; ends = ends-then (a .ends) (h v t .ends) }
@@ -51,21 +24,21 @@ then-fair (error e, t) f a h = a
 
 hex-digit-fair : (l : List ℕ) → Fair l (hexDigit l)
 unfolding hexDigit
-hex-digit-fair [] = record { given = refl; ends = all }
-hex-digit-fair (c ∷ t) = record { given = on-cond (λ (o : Outcome). isGiven o ≡ true) (isHex c) refl refl; ends = past all }
+hex-digit-fair [] = record { given = refl; ends = ends-all _ }
+hex-digit-fair (c ∷ t) = record { given = on-cond (λ (o : Outcome). isGiven o ≡ true) (isHex c) refl refl; ends = ends-cons _ (ends-all _) }
 
 hex-escape-fair : (l : List ℕ) → Fair l (hexEscape l)
 unfolding hexEscape
 hex-escape-fair l =
     then-fair (hexDigit l) _ (hex-digit-fair l)
-    (λ hi t. then-fair (hexDigit t) _ (hex-digit-fair t) (λ lo u. record { given = refl; ends = all }))
+    (λ hi t. then-fair (hexDigit t) _ (hex-digit-fair t) (λ lo u. record { given = refl; ends = ends-all _ }))
 
 first-digit-fair : (l : List ℕ) → Fair l (firstDigit l)
 unfolding firstDigit
-first-digit-fair [] = record { given = refl; ends = all }
+first-digit-fair [] = record { given = refl; ends = ends-all _ }
 first-digit-fair (c ∷ t) =
     let P : Outcome → Type 0 = λ o. isGiven o ≡ true in
-    record { given = on-cond P (eqb c 0x5F) refl (on-cond P (eqb c 0x7D) refl (on-cond P (isHex c) refl refl)); ends = past all }
+    record { given = on-cond P (eqb c 0x5F) refl (on-cond P (eqb c 0x7D) refl (on-cond P (isHex c) refl refl)); ends = ends-cons _ (ends-all _) }
 
 code-point-given : (isByte : Bool) (n v : ℕ) → isGiven (codePoint isByte n v) ≡ true
 unfolding codePoint
@@ -75,9 +48,9 @@ code-point-given isByte n v =
 
 closing-fair : (isByte : Bool) (d : ℕ × ℕ) (l : List ℕ) → Fair l (closing isByte d l)
 unfolding closing
-closing-fair isByte d [] = record { given = refl; ends = all }
+closing-fair isByte d [] = record { given = refl; ends = ends-all _ }
 closing-fair isByte d (c ∷ t) =
-    record { given = on-cond (λ (o : Outcome). isGiven o ≡ true) (eqb c 0x7D) (code-point-given isByte (d .0) (d .1)) refl; ends = past all }
+    record { given = on-cond (λ (o : Outcome). isGiven o ≡ true) (eqb c 0x7D) (code-point-given isByte (d .0) (d .1)) refl; ends = ends-cons _ (ends-all _) }
 
 braced-fair : (isByte : Bool) (l : List ℕ) → Fair l (braced isByte l)
 unfolding braced moreDigits
@@ -86,14 +59,14 @@ braced-fair isByte l =
     (λ v t.
     let d = moreDigits v t in
     let f = closing-fair isByte (d .0) (d .1) in
-    record { given = f .given; ends = ends-then (eat-ends orUnderscore addDigit (1, v) t) (f .ends) })
+    record { given = f .given; ends = ends-then (ends-eat orUnderscore addDigit (1, v) t) (f .ends) })
 
 unicode-escape-fair : (isByte : Bool) (l : List ℕ) → Fair l (unicodeEscape isByte l)
 unfolding unicodeEscape
-unicode-escape-fair isByte [] = record { given = refl; ends = all }
+unicode-escape-fair isByte [] = record { given = refl; ends = ends-all _ }
 unicode-escape-fair isByte (c ∷ t) =
     let f = braced-fair isByte t in
-    on-cond (Fair (c ∷ t)) (eqb c 0x7B) (record { given = f .given; ends = past (f .ends) }) (record { given = refl; ends = past all })
+    on-cond (Fair (c ∷ t)) (eqb c 0x7B) (record { given = f .given; ends = ends-cons _ (f .ends) }) (record { given = refl; ends = ends-cons _ (ends-all _) })
 
 simple-given : (c : ℕ) → isGiven (simple c) ≡ true
 unfolding simple
@@ -103,13 +76,13 @@ simple-given c =
 
 pub escape-fair : (isByte : Bool) (l : List ℕ) → Fair l (escape isByte l)
 unfolding escape
-escape-fair isByte [] = record { given = refl; ends = all }
+escape-fair isByte [] = record { given = refl; ends = ends-all _ }
 escape-fair isByte (c ∷ t) =
     let f = hex-escape-fair t in
     let g = unicode-escape-fair isByte t in
-    on-cond (Fair (c ∷ t)) (eqb c 0x78) (record { given = f .given; ends = past (f .ends) })
-    (on-cond (Fair (c ∷ t)) (eqb c 0x75) (record { given = g .given; ends = past (g .ends) })
-    (record { given = simple-given c; ends = past all }))
+    on-cond (Fair (c ∷ t)) (eqb c 0x78) (record { given = f .given; ends = ends-cons _ (f .ends) })
+    (on-cond (Fair (c ∷ t)) (eqb c 0x75) (record { given = g .given; ends = ends-cons _ (g .ends) })
+    (record { given = simple-given c; ends = ends-cons _ (ends-all _) }))
 
 pub ascii-given : (isByte : Bool) (c : ℕ) → isGiven (asciiCheck isByte c) ≡ true
 unfolding asciiCheck
@@ -129,15 +102,15 @@ one-char-fair : (isByte : Bool) (c : ℕ) (t : List ℕ) → Fair t (oneChar isB
 unfolding oneChar
 one-char-fair isByte c t =
     on-cond (Fair t) (eqb c 0x5C) (escape-fair isByte t)
-    (on-cond (Fair t) (isEscapeOnly c) (record { given = refl; ends = all })
-    (on-cond (Fair t) (eqb c 0x0D) (record { given = refl; ends = all })
-    (record { given = ascii-given isByte c; ends = all })))
+    (on-cond (Fair t) (isEscapeOnly c) (record { given = refl; ends = ends-all _ })
+    (on-cond (Fair t) (eqb c 0x0D) (record { given = refl; ends = ends-all _ })
+    (record { given = ascii-given isByte c; ends = ends-all _ })))
 
 alone-fair : {l : List ℕ} (x : Outcome × List ℕ) → Fair l x → Fair l (alone x)
 unfolding alone
 alone-fair (error e, t) f = f
 alone-fair (char c, []) f = f
-alone-fair (char c, x ∷ t) f = record { given = refl; ends = ends-then (f .ends) (past all) }
+alone-fair (char c, x ∷ t) f = record { given = refl; ends = ends-then (f .ends) (ends-cons _ (ends-all _)) }
 
 -- its first character is read
 pub char-read : (isByte : Bool) (c : ℕ) (t : List ℕ) → Fair t (charOrByte isByte (c ∷ t))
@@ -146,7 +119,7 @@ char-read isByte c t = alone-fair (oneChar isByte c t) (one-char-fair isByte c t
 
 pub char-or-byte-fair : (isByte : Bool) (l : List ℕ) → Fair l (charOrByte isByte l)
 unfolding charOrByte
-char-or-byte-fair isByte [] = record { given = refl; ends = all }
+char-or-byte-fair isByte [] = record { given = refl; ends = ends-all _ }
 char-or-byte-fair isByte (c ∷ t) =
     let f = char-read isByte c t in
-    record { given = f .given; ends = past (f .ends) }
+    record { given = f .given; ends = ends-cons _ (f .ends) }

@@ -10,6 +10,9 @@ use lib.Dec.{eqb}
 use Rattle.lists.specs.Eat.{eat}
 use Rattle.lists.proofs.Bools.{by-test, on-cond}
 use Rattle.lists.proofs.Cut.{by-length}
+use Rattle.lists.specs.Ends.{Ends}
+use Rattle.lists.proofs.Ends.{ends-all, ends-length, ends-eat}
+use Rattle.unicode.proofs.Text.{ends-bytes}
 use Rattle.unicode.specs.Utf8.{chars}
 use Rattle.unicode.specs.Text.{bytes}
 use Rattle.unicode.specs.Properties.{isWhiteSpace}
@@ -20,7 +23,7 @@ use Rattle.unescape.specs.Errors.{Outcome, error}
 use Rattle.unescape.specs.Escapes.{escape}
 use Rattle.unescape.specs.Bodies.{Item, charOrByte, strChar, rawChar, isSkipped, sawLf, item, one, unskipped, skipped, slashed, strCommon, rawStr, turn, turns, items, itemsOf}
 use Rattle.unescape.specs.Order.{isWarning, mayStart, InOrder, none, next}
-use Rattle.unescape.proofs.Fair.{Fair, Ends, all, ends-length, ends-bytes, eat-ends, escape-fair, char-read, raw-given, str-given}
+use Rattle.unescape.proofs.Fair.{Fair, escape-fair, char-read, raw-given, str-given}
 use Rattle.unescape.proofs.Whole.{turned, turns-nil, turns-cons}
 
 tail-bytes : (l : List ℕ) → bytes (tail l) ≤ bytes l
@@ -59,7 +62,7 @@ space-orders size l (c ∷ t) from to rest b h p q k =
     (λ e. rw e (next {to = to} i p (omega arith) (omega arith) (omega arith) (record { of = error 21; number-is = refl; given = refl }) (k (i .start) (i .end) (omega arith) (omega arith))))
     (λ e. rw e (k from to (omega arith) (omega arith)))
 
-skipped-orders : (size c x : ℕ) (t : List ℕ) (r : Bool × List ℕ) → Ends t (r .1) → Orders size c (x ∷ t) (skipped size (c ∷ x ∷ t) r)
+skipped-orders : (size c x : ℕ) (t : List ℕ) (r : Bool × List ℕ) → Ends (r .1) t → Orders size c (x ∷ t) (skipped size (c ∷ x ∷ t) r)
 unfolding Orders bytes skipped
 skipped-orders size c x t (true, r) e from to rest h p q k =
     let b = ends-bytes e in
@@ -79,7 +82,7 @@ unfolding slashed
 slashed-orders size c isByte [] = one-orders size c [] (escape isByte []) (escape-fair isByte [])
 slashed-orders size c isByte (x ∷ t) =
     on-cond (Orders size c (x ∷ t)) (eqb x 0x0A)
-    (skipped-orders size c x t (eat isSkipped sawLf false t) (eat-ends isSkipped sawLf false t))
+    (skipped-orders size c x t (eat isSkipped sawLf false t) (ends-eat isSkipped sawLf false t))
     (one-orders size c (x ∷ t) (escape isByte (x ∷ t)) (escape-fair isByte (x ∷ t)))
 
 turn-orders : (size mode c : ℕ) (t : List ℕ) → Orders size c t (turn size mode c t)
@@ -87,9 +90,9 @@ unfolding turn rawStr strCommon
 turn-orders size mode c t =
     let isByte = charactersShouldBeAscii mode in
     on-cond (Orders size c t) (isRaw mode)
-    (one-orders size c t (rawChar isByte c, t) (record { given = raw-given isByte c; ends = all }))
+    (one-orders size c t (rawChar isByte c, t) (record { given = raw-given isByte c; ends = ends-all _ }))
     (on-cond (Orders size c t) (eqb c 0x5C) (slashed-orders size c isByte t)
-    (one-orders size c t (strChar isByte c, t) (record { given = str-given isByte c; ends = all })))
+    (one-orders size c t (strChar isByte c, t) (record { given = str-given isByte c; ends = ends-all _ })))
 
 turns-order : (mode size : ℕ) (l : List ℕ) (from to : ℕ) → bytes l ≤ size → from ≤ size - bytes l → to ≤ size - bytes (tail l) → InOrder size from to (turns mode size l)
 unfolding Orders

@@ -14,6 +14,9 @@ use Rattle.lists.specs.Put.{PutIf}
 use Rattle.lists.proofs.Bools.{by-test, on-cond}
 use Rattle.lists.proofs.Cut.{cut-nil, cut-cons, by-length}
 use Rattle.lists.proofs.Store.{Storing, storing-none, storing-on, storing-end, stored-front}
+use Rattle.lists.specs.Ends.{Ends}
+use Rattle.lists.proofs.Ends.{ends-all, ends-cons, ends-length, ends-eat}
+use Rattle.unicode.proofs.Text.{ends-bytes}
 use Rattle.unicode.specs.Utf8.{chars}
 use Rattle.unicode.specs.Properties.{isWhiteSpace}
 use Rattle.unicode.specs.Text.{bytes, left}
@@ -29,7 +32,7 @@ use Rattle.unescape.specs.Escapes.{escape}
 use Rattle.unescape.specs.Bodies.{Item, charOrByte, strChar, rawChar, isSkipped, sawLf, item, one, unskipped, skipped, slashed, strCommon, rawStr, turn, joined, turns, items, itemsOf, flat}
 use Rattle.unescape.specs.Steps.{endOf, stepOf, given, Scanned, onFirst, Stepped, wordsOf, Walked, Stored}
 use Rattle.unescape.specs.Outcome.{outcome, listed, Unescaped, part, single}
-use Rattle.unescape.proofs.Fair.{Ends, all, past, ends-length, ends-bytes, eat-ends, escape-fair}
+use Rattle.unescape.proofs.Fair.{escape-fair}
 use Rattle.unescape.proofs.Turns.{place-of}
 
 -- ---- words
@@ -66,10 +69,10 @@ pub ruleset putting = (put-none, put-count, put-store)
 
 -- ---- one turn takes at least its first character, and gives no more items than it takes bytes
 pub record Turned (c : ℕ) (t : List ℕ) (x : List Item × List ℕ) : Type 0 where
-  pub ends : Ends t (x .1)
+  pub ends : Ends (x .1) t
   pub few : length (x .0) + bytes (x .1) ≤ bytes (c ∷ t)
 
-one-turned : (size c : ℕ) (from t : List ℕ) (x : Outcome × List ℕ) → Ends t (x .1) → Turned c t (one size from x)
+one-turned : (size c : ℕ) (from t : List ℕ) (x : Outcome × List ℕ) → Ends (x .1) t → Turned c t (one size from x)
 unfolding bytes
 one-turned size c from t x e = record { ends = e; few = omega (arith, ends-bytes e, width-some c) }
 
@@ -82,11 +85,11 @@ unfolding unskipped
 unskipped-few size from [] = omega arith
 unskipped-few size from (c ∷ t) = given-few (isWhiteSpace c) (item size from t (error 21))
 
-skipped-turned : (size c x : ℕ) (from t : List ℕ) (r : Bool × List ℕ) → Ends t (r .1) → Turned c (x ∷ t) (skipped size from r)
+skipped-turned : (size c x : ℕ) (from t : List ℕ) (r : Bool × List ℕ) → Ends (r .1) t → Turned c (x ∷ t) (skipped size from r)
 unfolding bytes skipped
 skipped-turned size c x from t (b, l) e =
     record {
-      ends = past e;
+      ends = ends-cons _ e;
       few = rw length-append (omega (arith, ends-bytes e, width-some c, width-some x, unskipped-few size from l, given-few b (item size from l (error 22))));
     }
 
@@ -95,15 +98,15 @@ unfolding slashed
 slashed-turned size c isByte from [] = one-turned size c from [] (escape isByte []) (escape-fair isByte [] .ends)
 slashed-turned size c isByte from (x ∷ t) =
     on-cond (Turned c (x ∷ t)) (eqb x 0x0A)
-    (skipped-turned size c x from t (eat isSkipped sawLf false t) (eat-ends isSkipped sawLf false t))
+    (skipped-turned size c x from t (eat isSkipped sawLf false t) (ends-eat isSkipped sawLf false t))
     (one-turned size c from (x ∷ t) (escape isByte (x ∷ t)) (escape-fair isByte (x ∷ t) .ends))
 
 pub turned : (size mode c : ℕ) (t : List ℕ) → Turned c t (turn size mode c t)
 unfolding turn rawStr strCommon
 turned size mode c t =
     let isByte = charactersShouldBeAscii mode in
-    on-cond (Turned c t) (isRaw mode) (one-turned size c (c ∷ t) t (rawChar isByte c, t) all)
-    (on-cond (Turned c t) (eqb c 0x5C) (slashed-turned size c isByte (c ∷ t) t) (one-turned size c (c ∷ t) t (strChar isByte c, t) all))
+    on-cond (Turned c t) (isRaw mode) (one-turned size c (c ∷ t) t (rawChar isByte c, t) (ends-all _))
+    (on-cond (Turned c t) (eqb c 0x5C) (slashed-turned size c isByte (c ∷ t) t) (one-turned size c (c ∷ t) t (strChar isByte c, t) (ends-all _)))
 
 module _ (mode size : ℕ) where
   pub turns-nil : turns mode size [] ≡ []

@@ -109,9 +109,6 @@ between {s} {low} {at} {l} h p =
 pub from-place : {s : List ℕ} {low at end : ℕ} {l m m′ : List ℕ} → Place s low at l → Place s at end m → m ≡ m′ → Place s low end m′
 from-place p q e = record { after = omega (arith, p .after, q .after); within = q .within; there = q .there ∙ e }
 
-pub left-point : {s : List ℕ} {at code wide : ℕ} → Point s at code wide → Place s at (at + wide) (left s (at + wide))
-left-point c = record { after = omega arith; within = c .within; there = refl }
-
 -- ---- eating
 module _ {S : Type 0} (p : ℕ → Bool) (g : S → ℕ → S) (s : List ℕ) where
   pub eating-none : (at : ℕ) (x : S) → at ≤ length s → Eating p g s at x at x

@@ -6,8 +6,8 @@ use Rattle.lexer.proofs.advance.string.Tie as tie
 double-quoted-string-requires : tie.Need-double-quoted-string-requires
 double-quoted-string-requires c κs = search (needs, advancing)
 
-eat-identifier-requires : tie.Need-eat-identifier-requires
-eat-identifier-requires c κs = search (needs, advancing)
+eat-literal-suffix-requires : tie.Need-eat-literal-suffix-requires
+eat-literal-suffix-requires c κs = search (needs, advancing)
 
 returns : tie.Need-returns
 returns c = search (needs, advancing)
@@ -17,4 +17,4 @@ returns-2 c = search (needs, advancing)
 
 pub string-spec : {M : Type 1} → statement M
 string-spec =
-    tie.close (tie.spec double-quoted-string-requires eat-identifier-requires returns returns-2)
+    tie.close (tie.spec double-quoted-string-requires eat-literal-suffix-requires returns returns-2)
