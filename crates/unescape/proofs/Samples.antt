@@ -8,7 +8,7 @@ use mathlib.Core.List.{List, [], _∷_}
 use Rattle.lists.specs.Cut.{cut, pieces}
 use Rattle.lists.specs.Eat.{eat}
 use Rattle.unicode.specs.Ranges.{inTable}
-use Rattle.unicode.specs.Utf8.{table, behind, begins, readBy, first, next, chars, width, isScalar, goodBytes, validUpTo}
+use Rattle.unicode.specs.Utf8.{table, behind, begins, joined as joinedBits, readBy, first, next, chars, width, isScalar, goodBytes, validUpTo}
 use Rattle.unicode.specs.Text.{bytes}
 use Rattle.unicode.specs.Ucd.{whiteSpace}
 use Rattle.text.specs.Answer.{Answered, done, roomTooSmall, checkText}
