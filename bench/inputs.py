@@ -85,5 +85,9 @@ def number():
 
 
 write("g-numbers", number)
+write("h-white-space", lambda: r.choice([" ", "    ", "\n", "\n\n", "\t", "        "]))
+cjk = [chr(c) for c in range(0x4E00, 0x4F00)]
+write("i-cjk", lambda: "".join(r.choice(cjk) for _ in range(r.randrange(1, 7))) + r.choice([" ", ";"]))
+write("j-emoji", lambda: "".join(chr(r.randrange(0x1F600, 0x1F640)) for _ in range(r.randrange(1, 5))) + " ")
 for f in sorted(os.listdir(out)):
     print(f, os.path.getsize(os.path.join(out, f)))
