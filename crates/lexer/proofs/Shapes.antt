@@ -113,7 +113,7 @@ module _ {base : ℕ} (known : Base base) where
   unfolding based
   based-part any t e = on-cond (Number t) any (fraction-part t) (record { listed = e; ends = ends-all t })
 
-number-part : (c : ℕ) (t : List ℕ) → Number t (number c t)
+pub number-part : (c : ℕ) (t : List ℕ) → Number t (number c t)
 unfolding number
 number-part c t =
     let d = digits isDigit (tail t) in
@@ -135,7 +135,7 @@ ends-quoted (c ∷ x ∷ t) =
     by-test (eqb c 0x22) (λ h. rw h (ends-cons c (ends-all (x ∷ t))))
     (λ h. by-test (escapes c x) (λ k. rw (h, k) (ends-cons c (ends-cons x past))) (λ k. rw (h, k) (ends-cons c next)))
 
-quote-listed : (q : Quote) → isLiteral (quoteKind q) ≡ true
+pub quote-listed : (q : Quote) → isLiteral (quoteKind q) ≡ true
 unfolding quoteKind
 quote-listed q =
     let P : ℕ → Type 0 = λ k. isLiteral k ≡ true in

@@ -1,0 +1,229 @@
+-- On characters: what may be put into a text, or stand at its end, without a change of the counted tokens.
+-- Assumes nothing.
+use Prim.Native.Nat.{ℕ, suc, _+_, _-_, _≤_}
+use native.Mathlib.Omega.{arith}
+use mathlib.Core.Path.{_≡_, refl, ap, ap₂, sym, subst, _∙_}
+use mathlib.Core.Bool.{Bool, true, false, cond, not, _&&_, _||_, false≢true}
+use mathlib.Core.List.{List, [], _∷_, _++_, append-assoc, append-nil, cons≢nil, tail}
+use mathlib.Core.Logic.{_⊎_, inl, inr}
+use lib.Dec.{eqb, leb}
+use lib.ListN.{length, length-append}
+use borrow.Author.Tests.{eqb-true, eqb-false, not-true}
+use Rattle.lists.specs.All.{all}
+use Rattle.lists.proofs.Bools.{by-test, both}
+use Rattle.lists.proofs.Ends.{ends-eat, ends-length}
+use Rattle.unicode.specs.Ranges.{inTable}
+use Rattle.unicode.specs.Text.{skip, keep}
+use Rattle.unicode.proofs.Text.{skip-nil, skip-more, skip-stop}
+use Rattle.lexer.specs.Chars.{isWhitespace, whitespace}
+use Rattle.lexer.specs.Kinds.{lineComment, blockComment, unclosedComment, whitespaceKind, slashMark}
+use Rattle.lexer.specs.Cut.{Letters, Tok, Token, peek, notLf, opens, closes, block, slash, isUnit, advance, piece}
+use Rattle.lexer.proofs.Shapes.{ends-advance}
+use Rattle.locality.specs.Phases.{act, Usual}
+use Rattle.locality.specs.Counted.{Item, isCounted, counted}
+use Rattle.locality.proofs.Swap.{Swap}
+use Rattle.locality.proofs.Newline.{swap-one, Ended, end-swap}
+use Rattle.locality.proofs.Counted.{others-count, white-first}
+use Rattle.locality.proofs.Between.{texts, counted-join, White, white-none, white-more, white-end, lf-white, all-white, Cuts, none, more, cuts-text, cuts-join, piece-swap, piece-white, Over, one-more, spaces, kind-white}
+use Rattle.locality.proofs.Ahead.{cuts-swap}
+
+-- ---- a closed block comment is closed whatever stands behind it
+-- it takes two characters at least
+block-less : (l : List ℕ) (d : ℕ) → block d l .0 ≡ true → 2 + length (block d l .1) ≤ length l
+unfolding block
+block-less [] d h = absurd (false≢true h)
+block-less (c ∷ []) d h = absurd (false≢true h)
+block-less (c ∷ x ∷ t) d h =
+    let past : (e : ℕ) → block e t .0 ≡ true → 2 + length (block e t .1) ≤ length t = λ e. block-less t e in
+    let next : block d (x ∷ t) .0 ≡ true → 2 + length (block d (x ∷ t) .1) ≤ length (x ∷ t) = block-less (x ∷ t) d in
+    by-test (opens c x) (λ o. rw o (omega (arith, past (suc d) (rw o at h))))
+    (λ o. by-test (closes c x)
+    (λ k. by-test (leb d 1) (λ z. rw (o, k, z) (omega arith)) (λ z. rw (o, k, z) (omega (arith, past (d - 1) (rw (o, k, z) at h)))))
+    (λ k. rw (o, k) (omega (arith, next (rw (o, k) at h)))))
+
+-- so none is closed before it has begun
+too-short : {P : Type 0} (d : ℕ) (b r : List ℕ) → length b ≤ 1 → block d (b ++ r) ≡ (true, r) → P
+too-short d b r n h =
+    absurd (omega (arith, block-less (b ++ r) d (ap (λ (y : Bool × List ℕ). y .0) h), ap (λ (y : Bool × List ℕ). length (y .1)) h, length-append b r))
+
+no-more : (t r s : List ℕ) → t ++ r ≡ r → t ++ s ≡ s
+no-more [] r s h = refl
+no-more (c ∷ t) r s h = absurd (omega (arith, ap length h, length-append t r))
+
+block-ahead : (b r s : List ℕ) (d : ℕ) → block d (b ++ r) ≡ (true, r) → block d (b ++ s) ≡ (true, s)
+unfolding block
+block-ahead [] r s d h = too-short d [] r (omega arith) h
+block-ahead (c ∷ []) r s d h = too-short d (c ∷ []) r (omega arith) h
+block-ahead (c ∷ x ∷ t) r s d h =
+    let past : (e : ℕ) → block e (t ++ r) ≡ (true, r) → block e (t ++ s) ≡ (true, s) = λ e. block-ahead t r s e in
+    let next : block d (x ∷ t ++ r) ≡ (true, r) → block d (x ∷ t ++ s) ≡ (true, s) = block-ahead (x ∷ t) r s d in
+    by-test (opens c x) (λ o. rw o (past (suc d) (rw o at h)))
+    (λ o. by-test (closes c x)
+    (λ k. by-test (leb d 1)
+    (λ z. rw (o, k, z) (ap (λ (y : List ℕ). (true, y)) (no-more t r s (ap (λ (y : Bool × List ℕ). y .1) (rw (o, k, z) at h)))))
+    (λ z. rw (o, k, z) (past (d - 1) (rw (o, k, z) at h))))
+    (λ k. rw (o, k) (next (rw (o, k) at h))))
+
+-- behind the slash
+record Closed (t r : List ℕ) : Type 0 where
+  no-line : eqb (peek t) 0x2F ≡ false
+  star : eqb (peek t) 0x2A ≡ true
+  block-is : block 1 (tail t) ≡ (true, r)
+
+slash-closed : (t r : List ℕ) → slash t ≡ (blockComment, r) → Closed t r
+unfolding slash
+slash-closed t r h =
+    by-test (eqb (peek t) 0x2F) (λ a. absurd (omega (arith, ap (λ (y : ℕ × List ℕ). y .0) (rw a at h))))
+    (λ a. by-test (eqb (peek t) 0x2A)
+    (λ b.
+    let g : (cond (block 1 (tail t) .0) blockComment unclosedComment, block 1 (tail t) .1) ≡ (blockComment, r) = rw (a, b) at h in
+    record { no-line = a; star = b; block-is = ap₂ (λ (v : Bool) (w : List ℕ). (v, w)) (shut (block 1 (tail t) .0) (ap (λ (y : ℕ × List ℕ). y .0) g)) (ap (λ (y : ℕ × List ℕ). y .1) g) })
+    (λ b. absurd (omega (arith, ap (λ (y : ℕ × List ℕ). y .0) (rw (a, b) at h)))))
+  where
+    shut : (v : Bool) → cond v blockComment unclosedComment ≡ blockComment → v ≡ true
+    shut true e = refl
+    shut false e = absurd (omega arith)
+
+tail-short : (l : List ℕ) → length (tail l) ≤ length l
+tail-short [] = omega arith
+tail-short (c ∷ l) = omega arith
+
+slash-ahead : (e r s : List ℕ) → slash (e ++ r) ≡ (blockComment, r) → slash (e ++ s) ≡ (blockComment, s)
+unfolding slash
+slash-ahead [] r s h =
+    let c = slash-closed r r h in
+    absurd (omega (arith, block-less (tail r) 1 (ap (λ (y : Bool × List ℕ). y .0) (c .block-is)), ap (λ (y : Bool × List ℕ). length (y .1)) (c .block-is), tail-short r))
+slash-ahead (x ∷ e) r s h =
+    let c = slash-closed (x ∷ e ++ r) r h in
+    rw (c .no-line, c .star, block-ahead e r s 1 (c .block-is))
+
+-- ---- a line comment ends before an LF, or at the end
+record Line (t r : List ℕ) : Type 0 where
+  twin : eqb (peek t) 0x2F ≡ true
+  rest-is : skip notLf (tail t) ≡ r
+
+slash-line : (t r : List ℕ) → slash t ≡ (lineComment, r) → Line t r
+unfolding slash
+slash-line t r h =
+    by-test (eqb (peek t) 0x2F) (λ a. record { twin = a; rest-is = ap (λ (y : ℕ × List ℕ). y .1) (rw a at h) })
+    (λ a. by-test (eqb (peek t) 0x2A) (λ b. absurd (other (block 1 (tail t) .0) (ap (λ (y : ℕ × List ℕ). y .0) (rw (a, b) at h))))
+    (λ b. absurd (omega (arith, ap (λ (y : ℕ × List ℕ). y .0) (rw (a, b) at h)))))
+  where
+    other : (v : Bool) → cond v blockComment unclosedComment ≡ lineComment → ⊥
+    other true e = omega arith
+    other false e = omega arith
+
+-- what was eaten is eaten, whatever stands behind it
+skip-ahead : (p : ℕ → Bool) (e r s : List ℕ) → skip p (e ++ r) ≡ r → skip p (e ++ s) ≡ skip p s
+skip-ahead p [] r s h = refl
+skip-ahead p (c ∷ e) r s h =
+    let ih : skip p (e ++ r) ≡ r → skip p (e ++ s) ≡ skip p s = skip-ahead p e r s in
+    by-test (p c) (λ a. skip-more p c (e ++ s) a ∙ ih (sym (skip-more p c (e ++ r) a) ∙ h))
+    (λ a. absurd (omega (arith, ap length (sym (skip-stop p c (e ++ r) a) ∙ h), length-append e r)))
+
+skip-short : (p : ℕ → Bool) (l : List ℕ) → length (skip p l) ≤ length l
+unfolding skip
+skip-short p l = ends-length (ends-eat p keep tt l)
+
+line-ahead : (e r s : List ℕ) → slash (e ++ r) ≡ (lineComment, r) → slash (e ++ s) ≡ (lineComment, skip notLf s)
+unfolding slash
+line-ahead [] r s h =
+    let l = slash-line r r h in
+    absurd (shorter r (l .twin) (l .rest-is))
+  where
+    shorter : (r : List ℕ) → eqb (peek r) 0x2F ≡ true → skip notLf (tail r) ≡ r → ⊥
+    shorter [] a e = false≢true a
+    shorter (c ∷ t) a e = omega (arith, ap length e, skip-short notLf t)
+line-ahead (x ∷ e) r s h =
+    let l = slash-line (x ∷ e ++ r) r h in
+    rw (l .twin, skip-ahead notLf e r s (l .rest-is))
+
+-- ---- no unit begins with a slash or with white space
+slash-no-unit : (x y : ℕ) → eqb x 0x2F ≡ true → isUnit x y ≡ false
+unfolding isUnit
+slash-no-unit x y h = rw (eqb-true x 0x2F h)
+
+white-isnt : (x d : ℕ) → isWhitespace x ≡ true → isWhitespace d ≡ false → eqb x d ≡ false
+white-isnt x d h n = by-test (eqb x d) (λ e. absurd (false≢true (sym n ∙ ap isWhitespace (sym (eqb-true x d e)) ∙ h))) (λ e. e)
+
+white-no-unit : (x y : ℕ) → isWhitespace x ≡ true → isUnit x y ≡ false
+unfolding isUnit whitespace inTable
+white-no-unit x y h =
+    rw (white-isnt x 0x73 h refl, white-isnt x 0x64 h refl, white-isnt x 0x6E h refl, white-isnt x 0x75 h refl, white-isnt x 0x6D h refl, white-isnt x 0xB5 h refl, white-isnt x 0x69 h refl)
+
+module _ (u : Letters) (usual : Usual u) (profile : ℕ) where
+  -- ---- an uncounted token first
+  over-first : {j : List Item} (c : ℕ) (t : List ℕ) → isCounted (advance u profile c t .kind) ≡ false → Over u usual profile j [] (advance u profile c t .rest) → Over u usual profile j [] (c ∷ t)
+  unfolding counted piece
+  over-first {j} c t h o =
+      let d = ends-advance u profile c t in
+      let k = piece u profile c t .0 in
+      record {
+        new = (k, c ∷ d .front) ∷ o .new;
+        cuts = more (ap (λ (y : List ℕ). c ∷ y) (d .is)) (subst (λ (y : List ℕ). piece u profile c y ≡ (k, advance u profile c t .rest)) (d .is) refl) (o .cuts);
+        same = rw h (o .same);
+      }
+
+  -- its first character is a slash, where it is a comment
+  slash-first : (c : ℕ) (t : List ℕ) → isCounted (advance u profile c t .kind) ≡ false → (advance u profile c t .kind ≡ whitespaceKind → ⊥) → eqb c 0x2F ≡ true
+  unfolding advance
+  slash-first c t h n =
+      by-test (eqb c 0x2F) (λ e. e)
+      (λ e. by-test (isWhitespace c) (λ k. absurd (n (rw (e, k)))) (λ k. absurd (false≢true (sym h ∙ others-count u profile c t e k))))
+
+  advance-slash : (c : ℕ) (t : List ℕ) → eqb c 0x2F ≡ true → advance u profile c t ≡ record { kind = slash t .0; mark = c ∷ t; rest = slash t .1 }
+  unfolding advance
+  advance-slash c t h = rw h
+
+  -- ---- behind white space, and behind a closed block comment, stands what stood there with anything uncounted in front
+  abbrev Free : ℕ → Type 0
+  Free k = (k ≡ blockComment) ⊎ (k ≡ whitespaceKind)
+
+  over-behind : {j : List Item} (c : ℕ) (e r s : List ℕ) (k : Tok) → piece u profile c (e ++ r) ≡ (k, r) → Free (k .kind) → Over u usual profile j [] s → Over u usual profile j [] (c ∷ (e ++ s))
+  unfolding piece counted isCounted
+  over-behind {j} c e r s k h (inr w) o =
+      let b = kind-white u usual profile c (e ++ r) r k h w in
+      let v = all-white e r (ap (λ (y : Tok × List ℕ). y .1) (sym (piece-white u usual profile c (e ++ r) b) ∙ h)) in
+      let n = spaces u usual profile c e b v (o .cuts) in
+      record { new = n .new; cuts = n .cuts; same = n .same ∙ o .same }
+  over-behind {j} c e r s k h (inl w) o =
+      let kind : advance u profile c (e ++ r) .kind ≡ blockComment = ap (λ (y : Tok × List ℕ). y .0 .kind) h ∙ w in
+      let f = slash-first c (e ++ r) (ap isCounted kind) (λ z. omega (arith, kind)) in
+      let a = advance-slash c (e ++ r) f in
+      let g : slash (e ++ r) ≡ (blockComment, r) =
+      ap₂ (λ (x : ℕ) (y : List ℕ). (x, y)) (ap (λ (y : Token). y .kind) (sym a) ∙ kind) (ap (λ (y : Token). y .rest) (sym a) ∙ ap (λ (y : Tok × List ℕ). y .1) h) in
+      let b : advance u profile c (e ++ s) ≡ record { kind = blockComment; mark = c ∷ (e ++ s); rest = s } = advance-slash c (e ++ s) f ∙ rw (slash-ahead e r s g) in
+      over-first c (e ++ s) (rw b) (rw b o)
+
+  -- ---- behind a line comment stands white space
+  kind-line : (c : ℕ) (e r : List ℕ) (k : Tok) → piece u profile c (e ++ r) ≡ (k, r) → k .kind ≡ lineComment → (eqb c 0x2F ≡ true) × (slash (e ++ r) ≡ (lineComment, r))
+  unfolding piece isCounted
+  kind-line c e r k h w =
+      let kind : advance u profile c (e ++ r) .kind ≡ lineComment = ap (λ (y : Tok × List ℕ). y .0 .kind) h ∙ w in
+      let f = slash-first c (e ++ r) (ap isCounted kind) (λ z. omega (arith, kind)) in
+      let a = advance-slash c (e ++ r) f in
+      (f, ap₂ (λ (x : ℕ) (y : List ℕ). (x, y)) (ap (λ (y : Token). y .kind) (sym a) ∙ kind) (ap (λ (y : Token). y .rest) (sym a) ∙ ap (λ (y : Tok × List ℕ). y .1) h))
+
+  over-line : {j : List Item} (c : ℕ) (e r s : List ℕ) (k : Tok) → piece u profile c (e ++ r) ≡ (k, r) → k .kind ≡ lineComment → Over u usual profile j [] (skip notLf s) → Over u usual profile j [] (c ∷ (e ++ s))
+  unfolding isCounted
+  over-line c e r s k h w o =
+      let l = kind-line c e r k h w in
+      let b : advance u profile c (e ++ s) ≡ record { kind = lineComment; mark = c ∷ (e ++ s); rest = skip notLf s } = advance-slash c (e ++ s) (l .0) ∙ rw (line-ahead e r s (l .1)) in
+      over-first c (e ++ s) (rw b) (rw b o)
+
+  -- the rest of it begins with an LF, or is empty
+  line-rest : (c : ℕ) (e r : List ℕ) (k : Tok) → piece u profile c (e ++ r) ≡ (k, r) → k .kind ≡ lineComment → skip notLf r ≡ r
+  line-rest c e r k h w =
+      let l = kind-line c e r k h w in
+      let q = line-ahead e r r (l .1) in
+      ap (λ (y : ℕ × List ℕ). y .1) (sym q ∙ l .1)
+
+  over-self : {j : List Item} {l : List ℕ} → Cuts u usual profile j l [] → Over u usual profile j [] l
+  unfolding counted
+  over-self {j} c = record { new = j; cuts = c; same = refl }
+
+  over-blank : {j : List Item} {v : List ℕ} (r : List ℕ) → White v → skip notLf r ≡ r → Cuts u usual profile j r [] → Over u usual profile j [] (skip notLf (v ++ r))
+  over-blank r white-none e c = rw e (over-self c)
+  over-blank r (white-more {c = d} {w = v} h x) e c =
+      let ih = over-blank r x e c in
+      by-test (notLf d) (λ a. rw (skip-more notLf d (v ++ r) a) ih) (λ a. rw (skip-stop notLf d (v ++ r) a) (spaces u usual profile d v h x c))

@@ -1,0 +1,10 @@
+pub mod Machine
+pub mod Phases
+pub mod Swap
+pub mod Newline
+pub mod Counted
+pub mod Between
+pub mod Clause
+pub mod Cutter
+pub mod Ahead
+pub mod Insert

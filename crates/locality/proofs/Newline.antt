@@ -1,0 +1,299 @@
+-- A newline for what stands behind a token: it ends every token just as well, but white space.
+-- Assumes nothing.
+use Prim.Native.Nat.{ℕ, zero, suc, _-_}
+use native.Mathlib.Omega.{arith}
+use mathlib.Core.Path.{_≡_, refl, ap, sym, subst, _∙_}
+use mathlib.Core.Bool.{Bool, true, false, cond, not, _&&_, _||_, false≢true}
+use mathlib.Core.List.{List, [], _∷_}
+use lib.Dec.{eqb, leb}
+use borrow.Author.Tests.{eqb-true}
+use Rattle.lists.proofs.Bools.{by-test, and-false, on-cond}
+use Rattle.lexer.specs.Chars.{isWhitespace}
+use Rattle.lexer.specs.Kinds.{unclosedComment, whitespaceKind, invalidIdent, annotation, atSign, int, float, ident, hardwareIdent, dollar, pragma}
+use Rattle.lexer.specs.Cut.{Letters, peek, notLf, isDigit, isHexDigit, isE, orUnderscore, met, opens, closes, isUnit, wideEmoji, goesOn}
+use Rattle.locality.specs.Machine.{Act, eats, halts}
+use Rattle.locality.specs.Phases as Phases
+use Rattle.locality.specs.Phases.{seeing, seenKind, Phase, behindSlash, line, inside, into, closing, closed, space, emojiName, spelling, behindAt, behindDollar, wire, zeroFirst, figures, pointed, decimals, behindE, power, quote, quoteClosed, suffixed, single, Seen, letter, figure, lineActs, insideActs, quoteActs, wireActs, suffixActs, numberEnds, fractionActs, figureActs, powerActs, nameActs, act, Usual}
+use Rattle.locality.proofs.Phases.{no-letter}
+use Rattle.locality.proofs.Swap.{Swap, Always}
+
+abbrev lf : ℕ
+lf = 0x0A
+
+never : {P : Type 0} {b d : Bool} {p : Phase} {k : ℕ} → eats b p ≡ halts d k → P
+never {b = b} {d = d} {p = p} {k = k} h = let z : _≡_ {A = ℕ} 0 1 = cc in absurd (omega arith)
+
+-- a test under which the machine would eat: it halts, so it goes on behind the test
+past : (t g : Bool) (q : Phase) {x : Act Phase} {b : Bool} {k : ℕ} → cond t (eats g q) x ≡ halts b k → x ≡ halts b k
+past true g q h = never h
+past false g q h = h
+
+module _ (u : Letters) where
+  -- ---- only units and comments are decided by two characters: what the machine does at c before r it does before s; or it is inside a comment
+  data Near (q : Phase) (c : ℕ) (r s : List ℕ) : Type 0 where
+    alike : act u q (c ∷ r) ≡ act u q (c ∷ s) → Near q c r s
+    within : (d : ℕ) → q ≡ inside d → Near q c r s
+
+  near : (c : ℕ) (r s : List ℕ) → isUnit c (peek r) ≡ isUnit c (peek s) → (q : Phase) → Near q c r s
+  unfolding act
+  near c r s e behindSlash = alike refl
+  near c r s e (line j) = alike refl
+  near c r s e (inside d) = within d refl
+  near c r s e (into d) = alike refl
+  near c r s e closing = alike refl
+  near c r s e closed = alike refl
+  near c r s e space = alike refl
+  near c r s e Phases.name = alike refl
+  near c r s e emojiName = alike refl
+  near c r s e (spelling bare n) = alike refl
+  near c r s e behindAt = alike refl
+  near c r s e behindDollar = alike refl
+  near c r s e (wire any) = alike refl
+  near c r s e zeroFirst = alike (rw e)
+  near c r s e (figures base any) = alike (rw e)
+  near c r s e (pointed base) = alike (rw e)
+  near c r s e (decimals base) = alike (rw e)
+  near c r s e (behindE base) = alike (rw e)
+  near c r s e (power base any) = alike (rw e)
+  near c r s e (quote escaped z) = alike refl
+  near c r s e (quoteClosed j) = alike refl
+  near c r s e (suffixed j) = alike refl
+  near c r s e (single j) = alike refl
+
+  -- inside a block comment nothing ends before a character
+  inside-eats : (d c : ℕ) (t : List ℕ) (b : Bool) (k : ℕ) → act u (inside d) (c ∷ t) ≡ halts b k → ⊥
+  unfolding act
+  inside-eats d c t b k h = never (past (closes c (peek t)) false (cond (leb d 1) closing (into (d - 1))) (past (opens c (peek t)) false (into (suc d)) h))
+
+  -- and from inside, the machine stays inside, or ends an unclosed comment
+  pub data Inside : Phase → Type 0 where
+    in-deep : (d : ℕ) → Inside (inside d)
+    in-into : (d : ℕ) → Inside (into d)
+    in-closing : Inside closing
+
+  inside-goes : (d c : ℕ) (t : List ℕ) (p : Phase) (b : Bool) → act u (inside d) (c ∷ t) ≡ eats b p → Inside p
+  unfolding act
+  inside-goes d c t p b h =
+      by-test (opens c (peek t))
+      (λ o.
+      let y : eats false (into (suc d)) ≡ eats b p = rw o at h in
+      let w : into (suc d) ≡ p = cc in
+      subst Inside w (in-into (suc d)))
+      (λ o. by-test (closes c (peek t))
+      (λ l.
+      let y : eats false (cond (leb d 1) closing (into (d - 1))) ≡ eats b p = rw (o, l) at h in
+      let w : cond (leb d 1) closing (into (d - 1)) ≡ p = cc in
+      subst Inside w (on-cond Inside (leb d 1) in-closing (in-into (d - 1))))
+      (λ l.
+      let y : eats false (inside d) ≡ eats b p = rw (o, l) at h in
+      let w : inside d ≡ p = cc in
+      subst Inside w (in-deep d)))
+
+  -- there no token ends before a character, and at the end only an unclosed comment does
+  inside-none : {p : Phase} (c : ℕ) (t : List ℕ) (b : Bool) (k : ℕ) → Inside p → act u p (c ∷ t) ≡ halts b k → ⊥
+  unfolding act
+  inside-none c t b k (in-deep d) h = inside-eats d c t b k h
+  inside-none c t b k (in-into d) h = never h
+  inside-none c t b k in-closing h = never h
+
+  inside-end : {p : Phase} (b : Bool) (k : ℕ) → Inside p → act u p [] ≡ halts b k → k ≡ unclosedComment
+  unfolding act
+  inside-end b k (in-deep d) h = cc
+  inside-end b k (in-into d) h = cc
+  inside-end b k in-closing h = cc
+
+  -- ---- so where two rests end a token alike, and make alike units, they may be swapped
+  swap-by : {ok : ℕ → Type 0} {r s : List ℕ} → ((c : ℕ) → isUnit c (peek r) ≡ isUnit c (peek s)) → ((p : Phase) (b : Bool) (k : ℕ) → ok k → Inside p → act u p r ≡ halts b k → ⊥) →
+      ((q : Phase) (b : Bool) (k : ℕ) → ok k → act u q r ≡ halts b k → act u q s ≡ halts b k) → Swap (act u) ok r s
+  swap-by {ok} {r} {s} units out here =
+      record {
+        here = here;
+        last = λ q p c b d k o h z.
+            elim (near c r s (units c) q) [
+              | alike e ↦ sym e ∙ h
+              | within d₁ i ↦ absurd (out p d k o (inside-goes d₁ c r p b (rw i at h)) z)
+            ];
+        before = λ q c b k h.
+            elim (near c r s (units c) q) [
+              | alike e ↦ sym e ∙ h
+              | within d₁ i ↦ absurd (inside-eats d₁ c r b k (rw i at h))
+            ];
+      }
+
+  -- ---- ONE CHARACTER BEHIND, that begins no unit: then anything
+  pub swap-one : (x : ℕ) (r s : List ℕ) → ((y : ℕ) → isUnit x y ≡ false) → Always (act u) (x ∷ r) (x ∷ s)
+  swap-one x r s begins =
+      let e : isUnit x (peek r) ≡ isUnit x (peek s) = begins (peek r) ∙ sym (begins (peek s)) in
+      swap-by (λ c. refl) (λ p b k o i h. inside-none x r b k i h)
+      (λ q b k o h.
+      elim (near x r s e q) [
+        | alike i ↦ sym i ∙ h
+        | within d i ↦ absurd (inside-eats d x r b k (rw i at h))
+      ])
+
+-- ---- an LF is no digit
+no-digit : isDigit lf ≡ false
+unfolding isDigit
+no-digit = refl
+
+no-figure : (base : ℕ) → orUnderscore (figure base) lf ≡ false
+unfolding isDigit isHexDigit
+no-figure base = by-test (eqb base 3) (λ h. rw h) (λ h. rw h)
+
+-- x is the second letter of no unit
+pub record NoUnit (x : ℕ) : Type 0 where
+  pub no-t : eqb x 0x74 ≡ false
+  pub no-s : eqb x 0x73 ≡ false
+  pub no-m : eqb x 0x6D ≡ false
+
+module _ (u : Letters) (usual : Usual u) (x : ℕ) (r s : List ℕ) where
+  -- "where the machine halts before x, it halts before LF, and says the same", for parts of the definition of `act`
+  abbrev Same : (List ℕ → Act Phase) → Type 0
+  Same f = (b : Bool) (k : ℕ) → f (x ∷ r) ≡ halts b k → f (lf ∷ s) ≡ halts b k
+
+  same-line : (j : ℕ) → Same (lineActs j)
+  unfolding notLf
+  same-line j b k h = past (notLf x) false (line j) h
+
+  same-name : Same (nameActs u)
+  same-name b k h = rw (usual .no-more) (past (wideEmoji u x) false emojiName (past (u .more x) false Phases.name h))
+
+  same-suffix : (j : ℕ) → Same (suffixActs u j)
+  same-suffix j b k h = rw (usual .no-start) (past (u .start x) true (suffixed j) h)
+
+  same-number : (j : ℕ) → Same (numberEnds u j)
+  unfolding isUnit
+  same-number j b k h = by-test (isUnit x (peek r)) (λ e. rw (usual .no-start) (rw e at h)) (λ e. same-suffix j b k (rw e at h))
+
+  same-fraction : (base : ℕ) → Same (fractionActs u base)
+  same-fraction base b k h = same-number (int base false) b k (past (isE x) false (behindE base) (past (eqb x 0x2E) false (pointed base) h))
+
+  same-figures : (base : ℕ) (any : Bool) → Same (figureActs u base any)
+  same-figures base any b k h = rw (no-figure base) (either any (past (orUnderscore (figure base) x) false (figures base (met (figure base) any x)) h))
+    where
+      either : (any : Bool) → cond any (fractionActs u base (x ∷ r)) (numberEnds u (int base true) (x ∷ r)) ≡ halts b k → cond any (fractionActs u base (lf ∷ s)) (numberEnds u (int base true) (lf ∷ s)) ≡ halts b k
+      either true e = same-fraction base b k e
+      either false e = same-number (int base true) b k e
+
+  same-power : (base : ℕ) (any : Bool) → Same (powerActs u base any)
+  same-power base any b k h = rw no-digit (same-number (float base (not any)) b k (past (orUnderscore isDigit x) false (power base (met isDigit any x)) h))
+
+  same-wire : (any : Bool) → Same (wireActs any)
+  same-wire any b k h = rw no-digit (past (orUnderscore isDigit x) false (wire (met isDigit any x)) h)
+
+  same-at : (b : Bool) (k : ℕ) → cond (u .start x) (lineActs annotation (x ∷ r)) (halts false atSign) ≡ halts b k → _≡_ {A = Act Phase} (halts false atSign) (halts b k)
+  unfolding notLf
+  same-at b k h =
+      by-test (u .start x)
+      (λ e. by-test (eqb x lf)
+      (λ l. absurd (false≢true (sym (usual .no-start) ∙ ap (u .start) (sym (eqb-true x lf l)) ∙ e)))
+      (λ l. never (rw (e, l) at h)))
+      (λ e. rw e at h)
+
+  here : (q : Phase) (b : Bool) (k : ℕ) → (k ≡ whitespaceKind → ⊥) → act u q (x ∷ r) ≡ halts b k → act u q (lf ∷ s) ≡ halts b k
+  unfolding act
+  here behindSlash b k o h = past (eqb x 0x2A) false (inside 1) (past (eqb x 0x2F) false (line 1) h)
+  here (line j) b k o h = same-line j b k h
+  here (inside d) b k o h = never (past (closes x (peek r)) false (cond (leb d 1) closing (into (d - 1))) (past (opens x (peek r)) false (into (suc d)) h))
+  here (into d) b k o h = never h
+  here closing b k o h = never h
+  here closed b k o h = h
+  here space b k o h =
+      let z : halts false whitespaceKind ≡ halts b k = past (isWhitespace x) false space h in
+      let y : whitespaceKind ≡ k = cc in
+      absurd (o (sym y))
+  here Phases.name b k o h = same-name b k h
+  here emojiName b k o h = rw (usual .no-more) (past (goesOn u x) false emojiName h)
+  here (spelling bare n) b k o h =
+      rw (no-letter lf n (omega arith)) (either bare (past (eqb x (letter n)) false (cond (leb 5 n) (line pragma) (spelling bare (suc n))) h))
+    where
+      either : (bare : Bool) → cond bare (nameActs u (x ∷ r)) (halts false invalidIdent) ≡ halts b k → cond bare (nameActs u (lf ∷ s)) (halts false invalidIdent) ≡ halts b k
+      either true e = same-name b k e
+      either false e = e
+  here behindAt b k o h = rw (usual .no-start) (same-at b k h)
+  here behindDollar b k o h = same-wire false b k (past (wideEmoji u x) false emojiName h)
+  here (wire any) b k o h = same-wire any b k h
+  here zeroFirst b k o h =
+      same-figures 2 true b k (past (eqb x 0x78) false (figures 3 false) (past (eqb x 0x6F) false (figures 1 false) (past (eqb x 0x62) false (figures 0 false) h)))
+  here (figures base any) b k o h = same-figures base any b k h
+  here (pointed base) b k o h = rw no-digit (same-number (float base false) b k (past (isDigit x) false (decimals base) h))
+  here (decimals base) b k o h =
+      rw no-digit (same-number (float base false) b k (past (isE x) false (behindE base) (past (orUnderscore isDigit x) false (decimals base) h)))
+  here (behindE base) b k o h = same-power base false b k (past (eqb x 0x2D || eqb x 0x2B) false (power base false) h)
+  here (power base any) b k o h = same-power base any b k h
+  here (quote escaped z) b k o h = never (past (eqb x 0x22 && not escaped) false (quoteClosed (seenKind true z)) h)
+  here (quoteClosed j) b k o h = same-suffix j b k h
+  here (suffixed j) b k o h = rw (usual .no-more) (past (u .more x) false (suffixed j) h)
+  here (single j) b k o h = h
+
+  module _ (none : NoUnit x) where
+    unit-same : (c : ℕ) → isUnit c x ≡ isUnit c lf
+    unfolding isUnit
+    unit-same c = rw (none .no-t, none .no-s, none .no-m)
+
+    -- A NEWLINE FOR WHATEVER ELSE ENDED THE TOKEN
+    pub newline-swap : Swap (act u) (λ k. (k ≡ whitespaceKind → ⊥)) (x ∷ r) (lf ∷ s)
+    newline-swap = swap-by u unit-same (λ p b k o i h. inside-none u x r b k i h) here
+
+-- ---- at the end of the text a newline changes no token but white space, an unclosed comment and an unclosed quoted text
+pub record Ended (k : ℕ) : Type 0 where
+  pub no-space : (k ≡ whitespaceKind → ⊥)
+  pub no-comment : (k ≡ unclosedComment → ⊥)
+  pub no-quote : ((s : Seen) → seenKind false s ≡ k → ⊥)
+
+module _ (u : Letters) (usual : Usual u) (s : List ℕ) where
+  -- a newline begins no suffix, as the end does not
+  ends-suffix : (j : ℕ) → suffixActs u j [] ≡ suffixActs u j (lf ∷ s)
+  ends-suffix j = rw (usual .no-start)
+
+  ends-number : (j : ℕ) → numberEnds u j [] ≡ numberEnds u j (lf ∷ s)
+  unfolding isUnit
+  ends-number j = ends-suffix j
+
+  ends-name : nameActs u [] ≡ nameActs u (lf ∷ s)
+  ends-name = rw (usual .no-more)
+
+  ends-figures : (base : ℕ) (any : Bool) → figureActs u base any [] ≡ figureActs u base any (lf ∷ s)
+  ends-figures base any = rw (no-figure base) (either any)
+    where
+      either : (any : Bool) → cond any (fractionActs u base []) (numberEnds u (int base true) []) ≡ cond any (fractionActs u base (lf ∷ s)) (numberEnds u (int base true) (lf ∷ s))
+      either true = ends-number (int base false)
+      either false = ends-number (int base true)
+
+  ends-power : (base : ℕ) (any : Bool) → powerActs u base any [] ≡ powerActs u base any (lf ∷ s)
+  ends-power base any = rw no-digit (ends-number (float base (not any)))
+
+  ends-here : (q : Phase) (b : Bool) (k : ℕ) → Ended k → act u q [] ≡ halts b k → act u q (lf ∷ s) ≡ halts b k
+  unfolding act notLf isDigit
+  ends-here behindSlash b k o h = h
+  ends-here (line j) b k o h = h
+  ends-here (inside d) b k o h = absurd (o .no-comment (cc))
+  ends-here (into d) b k o h = absurd (o .no-comment (cc))
+  ends-here closing b k o h = absurd (o .no-comment (cc))
+  ends-here closed b k o h = h
+  ends-here space b k o h = absurd (o .no-space (cc))
+  ends-here Phases.name b k o h = sym ends-name ∙ h
+  ends-here emojiName b k o h = rw (usual .no-more) h
+  ends-here (spelling bare n) b k o h = rw (no-letter lf n (omega arith)) (either bare (rw (no-letter 0 n (omega arith)) at h))
+    where
+      either : (bare : Bool) → cond bare (nameActs u []) (halts false invalidIdent) ≡ halts b k → cond bare (nameActs u (lf ∷ s)) (halts false invalidIdent) ≡ halts b k
+      either true e = sym ends-name ∙ e
+      either false e = e
+  ends-here behindAt b k o h = rw (usual .no-start) (rw (usual .no-nul) at h)
+  ends-here behindDollar b k o h = h
+  ends-here (wire any) b k o h = h
+  ends-here zeroFirst b k o h = sym (ends-figures 2 true) ∙ h
+  ends-here (figures base any) b k o h = sym (ends-figures base any) ∙ h
+  ends-here (pointed base) b k o h = sym (ends-number (float base false)) ∙ h
+  ends-here (decimals base) b k o h = sym (ends-number (float base false)) ∙ h
+  ends-here (behindE base) b k o h = sym (ends-power base false) ∙ h
+  ends-here (power base any) b k o h = sym (ends-power base any) ∙ h
+  ends-here (quote escaped z) b k o h = absurd (o .no-quote z (cc))
+  ends-here (quoteClosed j) b k o h = sym (ends-suffix j) ∙ h
+  ends-here (suffixed j) b k o h = rw (usual .no-more) h
+  ends-here (single j) b k o h = h
+
+  -- A NEWLINE FOR THE END
+  pub end-swap : Swap (act u) Ended [] (lf ∷ s)
+  unfolding isUnit
+  end-swap = swap-by u (λ c. refl) (λ p b k o i h. o .no-comment (inside-end u b k i h)) ends-here

@@ -1,0 +1,4 @@
+pub mod Machine
+pub mod Phases
+pub mod Counted
+pub mod Cutter

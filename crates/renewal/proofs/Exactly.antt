@@ -1,0 +1,75 @@
+-- Keys are equal exactly when the lists of counted tokens are; and how long a key can be. Over any cutter, and for the profiles'.
+-- Assumes nothing.
+use Prim.Native.Nat.{ℕ, _+_, _-_, _*_, _≤_}
+use native.Mathlib.Omega.{arith}
+use mathlib.Core.Path.{_≡_, refl, ap, sym, _∙_}
+use mathlib.Core.Bool.{Bool, true, false}
+use mathlib.Core.List.{List, [], _∷_, _++_}
+use lib.ListN.{length, take, drop, length-drop}
+use lib.Seq.{take-append-seam}
+use Rattle.lists.proofs.Cut.{by-length}
+use Rattle.text.specs.Answer.{Accepted, done, longest, checkCut}
+use Rattle.text.proofs.Checks.{cut-accepted}
+use Rattle.lexer.specs.Cut.{Tok}
+use Rattle.lexer.specs.Outcome.{tokensOf}
+use Rattle.tokens.specs.Tiling.{Each}
+use Rattle.renewal.specs.Members.{Member, isCounted, memberOf, counted, membersBy, membersOf}
+use Rattle.renewal.specs.Key.{keyOf, keyBy, keyOfText}
+use Rattle.renewal.specs.Rules.{Ruled, First, Cutter}
+use Rattle.renewal.proofs.Prefix.{keys-once, ruled-told}
+use Rattle.renewal.proofs.Walking.{Step, key-long, adds-few}
+use Rattle.renewal.proofs.Cutter.{profile-cutter}
+
+module _ {cutter : List ℕ → List Tok} (cuts : Cutter cutter) where
+  -- ---- every member of a text obeys the rules
+  ruled-cons : (s : List ℕ) (t : Tok) (ts : List Tok) → (isCounted (t .kind) ≡ true → Ruled (memberOf s t)) → Each Ruled (counted (drop (t .len) s) ts) → Each Ruled (counted s (t ∷ ts))
+  unfolding counted
+  ruled-cons s t ts r rs = go (isCounted (t .kind)) refl
+    where
+      go : (b : Bool) → isCounted (t .kind) ≡ b → Each Ruled (elim b [ true ↦ memberOf s t ∷ counted (drop (t .len) s) ts | false ↦ counted (drop (t .len) s) ts ])
+      go true e = (r e, rs)
+      go false e = rs
+
+  pub members-ruled : (s : List ℕ) → length s ≤ longest → Each Ruled (membersBy cutter s)
+  unfolding membersBy counted
+  members-ruled =
+      by-length (λ (s : List ℕ). length s ≤ longest → Each Ruled (membersBy cutter s)) (λ h. rw (cuts .none) tt)
+      (λ a s ih h.
+      let f = cuts .first a s in
+      let l = length-drop (f .token .len) (a ∷ s) in
+      rw (f .view) (ruled-cons (a ∷ s) (f .token) (cutter (drop (f .token .len) (a ∷ s))) (f .ruled h) (ih (drop (f .token .len) (a ∷ s)) (omega (arith, f .some)) (omega arith))))
+
+  -- ---- EXACTLY WHEN
+  pub exactly-when-by : (s s′ : List ℕ) → length s ≤ longest → length s′ ≤ longest →
+      (keyBy cutter s ≡ keyBy cutter s′ → membersBy cutter s ≡ membersBy cutter s′) × (membersBy cutter s ≡ membersBy cutter s′ → keyBy cutter s ≡ keyBy cutter s′)
+  unfolding keyBy
+  exactly-when-by s s′ h h′ =
+      (keys-once ruled-told (membersBy cutter s) (membersBy cutter s′) (members-ruled s h) (members-ruled s′ h′), ap keyOf)
+
+  -- ---- at most eleven bytes for each byte of the text
+  first-step : (s : List ℕ) (f : First cutter s) → Step cutter s 0 (f .token .kind) (f .token .suff) (f .token .len)
+  first-step s f =
+      let len : f .token .len - 0 ≡ f .token .len = omega arith in
+      let suff : f .token .suff - 0 ≡ f .token .suff = omega arith in
+      record { some = f .some; within = f .within; view = rw (len, suff) (f .view); known = f .known }
+
+  pub key-few-by : (s : List ℕ) → length (keyBy cutter s) ≤ 11 * length s
+  unfolding keyBy membersBy counted keyOf
+  key-few-by =
+      by-length (λ (s : List ℕ). length (keyBy cutter s) ≤ 11 * length s) (rw (cuts .none) (omega arith))
+      (λ a s ih.
+      let f = cuts .first a s in
+      let t = first-step (a ∷ s) f in
+      omega (arith, key-long t, adds-few t, f .some, f .within, ih (drop (f .token .len) (a ∷ s)) (omega (arith, f .some, length-drop (f .token .len) (a ∷ s))), length-drop (f .token .len) (a ∷ s)))
+
+-- ---- THE THEOREM, for two texts that are accepted under one profile: their keys are equal if and only if their counted tokens are, one by
+-- one, in kind, length, suffix start and bytes
+pub exactly-when : (profile : ℕ) (s s′ : List ℕ) → checkCut s profile .0 ≡ done → checkCut s′ profile .0 ≡ done →
+    (keyOfText profile s ≡ keyOfText profile s′ → membersOf profile s ≡ membersOf profile s′) × (membersOf profile s ≡ membersOf profile s′ → keyOfText profile s ≡ keyOfText profile s′)
+unfolding keyOfText membersOf keyBy
+exactly-when profile s s′ h h′ =
+    exactly-when-by (profile-cutter profile) s s′ (cut-accepted s profile h .1 .short) (cut-accepted s′ profile h′ .1 .short)
+
+pub key-few : (profile : ℕ) (s : List ℕ) → length (keyOfText profile s) ≤ 11 * length s
+unfolding keyOfText membersOf keyBy
+key-few profile s = key-few-by (profile-cutter profile) s

@@ -1,0 +1,11 @@
+pub mod Words
+pub mod Texts
+pub mod Prefix
+pub mod Bodies
+pub mod Writing
+pub mod Walking
+pub mod Marks
+pub mod Cutter
+pub mod Exactly
+pub mod Whole
+pub mod RulesOut

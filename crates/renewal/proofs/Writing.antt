@@ -1,0 +1,233 @@
+-- The laws of the functions that write records, as `search` takes them.
+-- Assumes nothing.
+use Prim.Native.Nat.{ℕ, suc, _+_, _-_, _*_, _/_, _%_, _≤_, _<_, min}
+use native.Mathlib.Decide.{ℕ-discrete}
+use native.Mathlib.Omega.{arith}
+use native.Mathlib.Nat.{add-zero}
+use native.Mathlib.Numerals.{add-one, add-two, add-three}
+use mathlib.Core.Path.{_≡_, refl, ap, sym, _∙_}
+use mathlib.Core.Bool.{Bool, true, false, cond}
+use mathlib.Core.List.{List, [], _∷_, _++_}
+use lib.ListN.{length, take, drop, set, getD, length-set, length-append, length-take, length-drop, drop-of-length-le}
+use lib.Seq.{sets, drop-cons}
+use lib.Dec.{eqb}
+use borrow.Author.Tests.{eq-eqb, ne-eqb}
+use Rattle.lists.proofs.Bools.{on-cond}
+use Rattle.lists.specs.Put.{Put}
+use Rattle.lists.proofs.Put.{sets-append, put-then}
+use Rattle.text.specs.Answer.{longest}
+use Rattle.renewal.specs.Members.{Member}
+use Rattle.renewal.specs.Key.{noBody, bodyLength, digits, word, bodyOf, texts, held, encode}
+use Rattle.renewal.specs.Steps.{member, entry, sizeBy, BodyFits, Writable, Ready, Entered}
+use Rattle.renewal.proofs.Words.{digits-length}
+use Rattle.renewal.proofs.Texts.{texts-nil, texts-length, texts-at}
+use Rattle.renewal.proofs.Prefix.{held-empty, held-stored}
+use Rattle.renewal.proofs.Bodies.{kind-small, body-eight, body-most}
+
+-- ---- four bytes
+pub put-word : {out out′ : List ℕ} {k r : ℕ} (n : ℕ) →
+    out′ ≡ set (set (set (set out k (n % 256)) (k + 1) (n / 256 % 256)) (k + 2) (n / 256 / 256 % 256)) (k + 3) (n / 256 / 256 / 256 % 256) → r ≡ k + 4 → Put out k (word n) out′ r
+unfolding digits
+put-word {out} {out′} {k} n u v =
+    record { same = rw (u, add-one, add-two, add-three); next = v; long = ap length u ∙ simp length-set }
+
+-- ---- a part stored byte by byte: to store what is left of it from here on comes to the same
+pub record Copying (out₀ : List ℕ) (k : ℕ) (part out : List ℕ) (i : ℕ) : Type 0 where
+  pub within : i ≤ length part
+  pub room : k + length part ≤ length out₀
+  pub long : length out ≡ length out₀
+  pub same : sets out (k + i) (drop i part) ≡ sets out₀ k part
+
+pub copying-none : (out : List ℕ) (k : ℕ) (part : List ℕ) → k + length part ≤ length out → Copying out k part out 0
+copying-none out k part h = record { within = omega arith; room = h; long = refl; same = rw (add-zero k) }
+
+pub copying-more : {out₀ part out out′ : List ℕ} {k i i′ : ℕ} → Copying out₀ k part out i → i < length part → out′ ≡ set out (k + i) (getD part i 0) → i′ ≡ i + 1 → Copying out₀ k part out′ i′
+copying-more {out₀} {part} {out} {out′} {k} {i} c h u v =
+    let e : k + (i + 1) ≡ suc (k + i) = omega arith in
+    record {
+      within = omega arith;
+      room = c .room;
+      long = ap length u ∙ length-set out (k + i) (getD part i 0) ∙ c .long;
+      same = rw (v, e, u, add-one i) (ap (λ (l : List ℕ). sets out (k + i) l) (sym (drop-cons part i 0 h)) ∙ c .same);
+    }
+
+pub copying-end : {out₀ part out : List ℕ} {k i r : ℕ} → Copying out₀ k part out i → length part ≤ i → r ≡ k + i → Put out₀ k part out r
+copying-end {out₀} {part} {out} {k} {i} c h u =
+    let e : sets out (k + i) (drop i part) ≡ out = (rw (drop-of-length-le part {i = i} h)) in
+    record { same = sym e ∙ c .same; next = omega (arith, c .within); long = c .long }
+
+-- ---- text records stored one by one
+pub record Texting (out₀ : List ℕ) (k₀ : ℕ) (text out : List ℕ) (i k : ℕ) : Type 0 where
+  pub within : i ≤ length text
+  pub room : k + length (texts (drop i text)) ≤ length out
+  pub long : length out ≡ length out₀
+  pub next : k + length (texts (drop i text)) ≡ k₀ + length (texts text)
+  pub same : sets out k (texts (drop i text)) ≡ sets out₀ k₀ (texts text)
+
+pub texting-none : (out : List ℕ) (k : ℕ) (text : List ℕ) → k + length (texts text) ≤ length out → Texting out k text out 0 k
+texting-none out k text h = record { within = omega arith; room = h; long = refl; next = refl; same = refl }
+
+module _ {out₀ text out : List ℕ} {k₀ i k n : ℕ} (t : Texting out₀ k₀ text out i k) (h : i < length text) (m : n ≡ min 16 (length text - i)) where
+  texting-room : k + 1 + n ≤ length out
+  texting-room =
+      let r = texts (drop (i + n) text) in
+      let y : length (texts (drop i text)) ≡ suc (length (take n (drop i text)) + length r) =
+      ap length (texts-at text i n h m) ∙ ap suc (length-append (take n (drop i text)) r) in
+      omega (arith, t .room, y, length-take n (drop i text), length-drop i text)
+
+  pub texting-byte : k + 1 ≤ length out
+  texting-byte = omega (arith, texting-room)
+
+  pub texting-part : {b k₁ e : ℕ} {out₁ : List ℕ} → Put out k (b ∷ []) out₁ k₁ → e ≡ i + n → k₁ + length (take (e - i) (drop i text)) ≤ length out₁
+  texting-part {b} {k₁} {e} p v = omega (arith, texting-room, p .next, p .long, length-take (e - i) (drop i text))
+
+  pub texting-more : {out₁ out₂ : List ℕ} {b k₁ k₂ e : ℕ} → Put out k (b ∷ []) out₁ k₁ → b ≡ 128 + n → Put out₁ k₁ (take (e - i) (drop i text)) out₂ k₂ → e ≡ i + n → Texting out₀ k₀ text out₂ e k₂
+  texting-more {out₁} {out₂} {b} {k₁} {k₂} {e} p u q v =
+      let r = texts (drop (i + n) text) in
+      let c : e - i ≡ n = omega arith in
+      let w : Put out k (b ∷ take n (drop i text)) out₂ k₂ = put-then p (rw c at q) refl in
+      let x : texts (drop i text) ≡ (b ∷ take n (drop i text)) ++ r = texts-at text i n h m ∙ (rw u) in
+      let y : length (texts (drop i text)) ≡ length (b ∷ take n (drop i text)) + length r = ap length x ∙ length-append (b ∷ take n (drop i text)) r in
+      record {
+        within = omega arith;
+        room = rw v (omega (arith, t .room, y, w .next, w .long));
+        long = w .long ∙ t .long;
+        next = rw v (omega (arith, t .next, y, w .next));
+        same = rw (v, w .same, w .next) (sets-append (b ∷ take n (drop i text)) r out k ∙ ap (sets out k) (sym x) ∙ t .same);
+      }
+
+pub texting-end : {out₀ text out : List ℕ} {k₀ i k : ℕ} → Texting out₀ k₀ text out i k → length text ≤ i → Put out₀ k₀ (texts text) out k
+texting-end {out₀} {text} {out} {k₀} {i} {k} t h =
+    let d : drop i text ≡ [] = drop-of-length-le text {i = i} h in
+    let z : texts (drop i text) ≡ [] = ap texts d ∙ texts-nil in
+    record { same = sym (ap (sets out k) z) ∙ t .same; next = omega (arith, t .next, ap length z); long = t .long }
+
+-- ---- a body
+module _ {body k : ℕ} {key : List ℕ} (f : BodyFits body k key) where
+  pub body-first : k + 4 ≤ length key
+  body-first = elim (ℕ-discrete body 4) [ yes e ↦ omega (arith, f .room) | no n ↦ omega (arith, f .room, f .eight n) ]
+
+  module _ (len : ℕ) {a : ℕ} {key₁ : List ℕ} (p : Put key k (word len) key₁ a) where
+    pub body-four : (suff : ℕ) → body ≡ 4 → Put key k (take body (word len ++ word suff)) key₁ a
+    unfolding digits
+    body-four suff e = rw e p
+
+    pub body-second : (body ≡ 4 → ⊥) → a + 4 ≤ length key₁
+    body-second n = omega (arith, f .room, f .eight n, p .next, p .long, digits-length 4 len)
+
+    pub body-both : (suff : ℕ) {r : ℕ} {key₂ : List ℕ} → (body ≡ 4 → ⊥) → Put key₁ a (word suff) key₂ r → Put key k (take body (word len ++ word suff)) key₂ r
+    unfolding digits
+    body-both suff n q = put-then p q (rw (f .eight n))
+
+-- ---- one record: its bytes, and how many they are
+module _ (kind suff : ℕ) (text : List ℕ) where
+  abbrev is : List ℕ
+  is = encode (held (member kind suff text))
+
+  is-empty : bodyLength kind ≡ 0 → is ≡ kind ∷ []
+  unfolding encode
+  is-empty b = rw (held-empty (member kind suff text) b, b, texts-nil)
+
+  is-stored : (bodyLength kind ≡ 0 → ⊥) → is ≡ (kind ∷ []) ++ (bodyOf (member kind suff text) ++ texts text)
+  unfolding encode
+  is-stored z = rw (held-stored (member kind suff text) z)
+
+  body-long : (bodyLength kind ≡ noBody → ⊥) → length (bodyOf (member kind suff text)) ≡ bodyLength kind
+  unfolding digits
+  body-long n = omega (arith, length-take (bodyLength kind) (word (length text) ++ word suff), body-most kind n)
+
+  pub size-is : (bodyLength kind ≡ noBody → ⊥) → length is ≡ sizeBy (bodyLength kind) (length text)
+  size-is n =
+      elim (ℕ-discrete (bodyLength kind) 0) [
+        | yes z ↦ ap length (is-empty z) ∙ rw z
+        | no z ↦
+            ap length (is-stored z)
+            ∙ rw (ne-eqb (bodyLength kind) 0 z) (omega (arith, length-append (bodyOf (member kind suff text)) (texts text), body-long n, texts-length text))
+      ]
+
+module _ {body k kind suff : ℕ} {text key : List ℕ} (w : Writable body k kind suff text key) where
+  stands : bodyLength kind ≡ noBody → ⊥
+  stands z = w .stands (w .body-is ∙ z)
+
+  pub writable-kind : kind < 256
+  writable-kind = omega (arith, kind-small kind stands)
+
+  pub writable-byte : k + 1 ≤ length key
+  unfolding encode
+  writable-byte = omega (arith, w .room)
+
+  module _ {a c : ℕ} {key₁ : List ℕ} (p : Put key k (c ∷ []) key₁ a) (u : c ≡ kind) where
+    pub written-empty : body ≡ 0 → Put key k (encode (held (member kind suff text))) key₁ a
+    written-empty z = rw (is-empty kind suff text (sym (w .body-is) ∙ z), ← u) p
+
+    module _ (z : body ≡ 0 → ⊥) where
+      stored-size : length (encode (held (member kind suff text))) ≡ 1 + body + length (texts text)
+      stored-size =
+          size-is kind suff text stands ∙ rw (← w .body-is, ne-eqb body 0 z) (omega (arith, texts-length text))
+
+      pub writable-body : BodyFits body a key₁
+      writable-body =
+          record {
+            room = omega (arith, stored-size, w .room, p .next, p .long);
+            eight = λ f. w .body-is ∙ body-eight kind stands (λ x. z (w .body-is ∙ x)) (λ x. f (w .body-is ∙ x));
+          }
+
+      module _ {d n : ℕ} {key₂ : List ℕ} (q : Put key₁ a (take body (word n ++ word suff)) key₂ d) (v : n ≡ length text) where
+        body-put : Put key₁ a (bodyOf (member kind suff text)) key₂ d
+        body-put = rw (w .body-is, v) at q
+
+        pub writable-texts : d + length (texts text) ≤ length key₂
+        writable-texts =
+            omega (arith, stored-size, w .room, w .body-is, p .next, p .long, body-put .next, q .long, body-long kind suff text stands)
+
+        pub written-stored : {key₃ : List ℕ} {r : ℕ} → Put key₂ d (texts text) key₃ r → Put key k (encode (held (member kind suff text))) key₃ r
+        written-stored s = put-then p (put-then body-put s refl) (is-stored kind suff text (λ x. z (w .body-is ∙ x)) ∙ rw u)
+
+-- ---- one member
+pub size-empty : (body n : ℕ) → body ≡ 0 → 1 ≡ sizeBy body n
+size-empty body n e = rw (eq-eqb body 0 e)
+
+pub size-stored : (body n : ℕ) {r : ℕ} → (body ≡ 0 → ⊥) → r ≡ 1 + body + (n + (n + 15) / 16) → r ≡ sizeBy body n
+size-stored body n e u = rw (ne-eqb body 0 e) u
+
+module _ (kind suff : ℕ) (text : List ℕ) {body : ℕ} (b : body ≡ bodyLength kind) where
+  pub entered-none : {write : Bool} {k : ℕ} {key key′ : List ℕ} → body ≡ noBody → key′ ≡ key → Entered write key k (entry (member kind suff text)) key′ k
+  unfolding entry
+  entered-none {write} {k} {key} n e =
+      let z : entry (member kind suff text) ≡ [] = rw (eq-eqb (bodyLength kind) noBody (sym b ∙ n)) in
+      rw z (record { same = e ∙ on-cond (λ (x : List ℕ). key ≡ x) write refl refl; next = omega arith })
+
+  module _ (n : body ≡ noBody → ⊥) where
+    entry-is : entry (member kind suff text) ≡ encode (held (member kind suff text))
+    unfolding entry
+    entry-is = rw (ne-eqb (bodyLength kind) noBody (λ z. n (b ∙ z)))
+
+    pub writable : {table key : List ℕ} {write : Bool} {k : ℕ} → Ready table write k kind suff text key → write ≡ true → Writable body k kind suff text key
+    writable r t = record { body-is = b; stands = n; short = r .short; room = rw entry-is at (r .room t) }
+
+    pub entered-written : {write : Bool} {k r : ℕ} {key key′ : List ℕ} → write ≡ true → Put key k (encode (held (member kind suff text))) key′ r → Entered write key k (entry (member kind suff text)) key′ r
+    entered-written t p = rw (entry-is, t) (record { same = p .same; next = p .next })
+
+    pub entered-sized : {write : Bool} {k m r : ℕ} {key key′ : List ℕ} → write ≡ false → m ≡ sizeBy body (length text) → r ≡ k + m → key′ ≡ key → Entered write key k (entry (member kind suff text)) key′ r
+    entered-sized {m = m} t u v e =
+        let l : length (encode (held (member kind suff text))) ≡ m = size-is kind suff text (λ z. n (b ∙ z)) ∙ ap (λ (x : ℕ). sizeBy x (length text)) (sym b) ∙ sym u in
+        rw (entry-is, t) (record { same = e; next = omega (arith, l) })
+
+-- a body has at most eight bytes
+pub size-fits : (kind n : ℕ) {body m : ℕ} → body ≡ bodyLength kind → (body ≡ noBody → ⊥) → m ≡ sizeBy body n → m ≤ 9 + (n + (n + 15) / 16)
+size-fits kind n {body} {m} b s e =
+    elim (ℕ-discrete body 0) [
+      | yes z ↦ omega (arith, size-empty body n z)
+      | no z ↦ omega (arith, size-stored body n z refl, body-most kind (λ x. s (b ∙ x)))
+    ]
+
+-- so a member of one byte or more adds at most eleven bytes for each
+pub entry-few : (kind suff : ℕ) (text : List ℕ) → 1 ≤ length text → length (entry (member kind suff text)) ≤ 11 * length text
+unfolding entry
+entry-few kind suff text h =
+    elim (ℕ-discrete (bodyLength kind) noBody) [
+      | yes e ↦ rw (eq-eqb (bodyLength kind) noBody e) (omega arith)
+      | no n ↦
+          rw (ne-eqb (bodyLength kind) noBody n)
+          (omega (arith, size-is kind suff text n, size-fits kind (length text) refl n refl))
+    ]

@@ -1,0 +1,5 @@
+pub mod Members
+pub mod Key
+pub mod Rules
+pub mod Outcome
+pub mod Steps

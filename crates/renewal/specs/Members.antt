@@ -1,0 +1,41 @@
+-- The members of a text's key: its counted tokens one by one, each with its own bytes.
+-- Assumes nothing.
+use mathlib.Core.Bool.{Bool, true, false, not, _||_}
+use mathlib.Core.List.{List, [], _∷_}
+use Prim.Native.Nat.{ℕ}
+use lib.Dec.{eqb}
+use lib.ListN.{take, drop}
+use Rattle.lexer.specs.Kinds.{lineComment, blockComment, whitespaceKind}
+use Rattle.lexer.specs.Cut.{Tok}
+use Rattle.lexer.specs.Outcome.{tokensOf}
+
+pub record Member : Type 0 where
+  pub kind : ℕ
+  pub len : ℕ
+  pub suff : ℕ
+  pub bytes : List ℕ
+
+-- line comments, closed block comments and white space are uncounted; all others count, an unclosed comment too
+unfoldable pub isCounted : ℕ → Bool
+isCounted k = not (eqb k lineComment || (eqb k blockComment || eqb k whitespaceKind))
+
+-- the token t that the text s begins with
+abbrev pub memberOf : List ℕ → Tok → Member
+memberOf s t = record { kind = t .kind; len = t .len; suff = t .suff; bytes = take (t .len) s }
+
+-- the counted ones of tokens that lie in the text s one behind the other
+unfoldable pub counted : List ℕ → List Tok → List Member
+counted s [] = []
+counted s (t ∷ ts) =
+    elim (isCounted (t .kind)) [
+      | true ↦ memberOf s t ∷ counted (drop (t .len) s) ts
+      | false ↦ counted (drop (t .len) s) ts
+    ]
+
+-- of any cutter, which gives the tokens of a text from its bytes
+unfoldable pub membersBy : (List ℕ → List Tok) → List ℕ → List Member
+membersBy cutter s = counted s (cutter s)
+
+-- of the profiles' own cutter
+unfoldable pub membersOf : ℕ → List ℕ → List Member
+membersOf profile = membersBy (tokensOf profile)

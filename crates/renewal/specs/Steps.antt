@@ -1,0 +1,72 @@
+-- What the functions behind `renewal_key` ask and answer.
+-- Assumes nothing.
+use mathlib.Core.Path.{_≡_}
+use mathlib.Core.Bool.{Bool, true, cond}
+use mathlib.Core.List.{List, [], _∷_, _++_}
+use Prim.Native.Nat.{ℕ, zero, suc, _+_, _*_, _/_, _≤_}
+use lib.Dec.{eqb}
+use lib.ListN.{length, drop}
+use lib.Seq.{sets}
+use Rattle.unicode.specs.Utf8.{chars}
+use Rattle.text.specs.Answer.{Answered, done, longest, checkRoom}
+use Rattle.lexer.specs.Cut.{Tok, Letters, tokens}
+use Rattle.renewal.specs.Members.{Member}
+use Rattle.renewal.specs.Key.{noBody, bodyLength, held, encode, keyBy}
+
+-- the constant table: the body lengths of the kinds 0 to 61
+unfoldable pub bodiesFrom : ℕ → ℕ → List ℕ
+bodiesFrom k zero = []
+bodiesFrom k (suc n) = bodyLength k ∷ bodiesFrom (suc k) n
+
+unfoldable pub bodies : List ℕ
+bodies = bodiesFrom 0 62
+
+-- the member of a kind, a suffix start and its bytes
+abbrev pub member : ℕ → ℕ → List ℕ → Member
+member kind suff text = record { kind = kind; len = length text; suff = suff; bytes = text }
+
+-- what a member adds to the key, none where its kind stands in no key; and how many bytes that is, by the length of its body
+unfoldable pub entry : Member → List ℕ
+entry m = cond (eqb (bodyLength (m .kind)) noBody) [] (encode (held m))
+
+abbrev pub sizeBy : ℕ → ℕ → ℕ
+sizeBy body n = cond (eqb body 0) 1 (1 + body + (n + (n + 15) / 16))
+
+-- a body of that length can be written at place k
+pub record BodyFits (body k : ℕ) (key : List ℕ) : Type 0 where
+  pub room : k + body ≤ length key
+  pub eight : ((body ≡ 4 → ⊥) → body ≡ 8)
+
+-- a record may be written at place k: its kind stands in the key, with a body of that length
+pub record Writable (body k kind suff : ℕ) (text key : List ℕ) : Type 0 where
+  pub body-is : body ≡ bodyLength kind
+  pub stands : (body ≡ noBody → ⊥)
+  pub short : length text ≤ longest
+  pub room : k + length (encode (held (member kind suff text))) ≤ length key
+
+-- a member may be entered at place k
+pub record Ready (table : List ℕ) (write : Bool) (k kind suff : ℕ) (text key : List ℕ) : Type 0 where
+  pub table-is : table ≡ bodies
+  pub short : length text ≤ longest
+  pub low : k ≤ 11 * longest
+  pub room : (write ≡ true → k + length (entry (member kind suff text)) ≤ length key)
+
+-- bytes counted from place k on, and stored there where that is asked
+pub record Entered (write : Bool) (key : List ℕ) (k : ℕ) (vs : List ℕ) (key′ : List ℕ) (r : ℕ) : Type 0 where
+  pub same : key′ ≡ cond write (sets key k vs) key
+  pub next : r ≡ k + length vs
+
+-- the tokens of a text over letters that are lent
+abbrev pub cutBy : Letters → ℕ → List ℕ → List Tok
+cutBy u profile s = tokens u profile (chars s)
+
+-- a walk over the tokens, which sizes the key, and writes it where that is asked
+pub record Walked (cutter : List ℕ → List Tok) (s : List ℕ) (write : Bool) (key : List ℕ) (n : ℕ) (key′ : List ℕ) : Type 0 where
+  pub few : n ≤ 11 * length s
+  pub size : n ≡ length (keyBy cutter s)
+  pub bytes : key′ ≡ cond write (sets key 0 (keyBy cutter s)) key
+
+-- the answer for a text that passed the checks, and the key
+pub record Stored (cutter : List ℕ → List Tok) (s key : List ℕ) (number also : ℕ) (key′ : List ℕ) : Type 0 where
+  pub answer : Answered (checkRoom (length key) (length (keyBy cutter s))) number also
+  pub bytes : key′ ≡ cond (eqb number done) (keyBy cutter s ++ drop (length (keyBy cutter s)) key) key

@@ -1,0 +1,127 @@
+// The records of the key, written into lent bytes.
+ghost use mathlib.Core.Path.{_≡_};
+ghost use mathlib.Core.List.{[], _∷_, _++_};
+ghost use Prim.Native.Nat.{_+_, _≤_, min};
+ghost use lib.ListN.{length, take};
+ghost use Rattle.lists.specs.Put.{Put};
+ghost use Rattle.renewal.specs.Key.{word, texts, held, encode};
+ghost use Rattle.renewal.specs.Steps.{sizeBy, member, entry, BodyFits, Writable, Ready, Entered};
+use crate::table::NO_BODY;
+use crate::table::body_length;
+
+fn put_byte(key: &mut [u8], k: usize, b: u8) -> usize
+    requires { ⌜ k + 1 ≤ length (now key) ⌝ }
+    ensures { λ r. ⌜ Put (now (key .entry)) k (b ∷ []) (now (key .exit)) r ⌝ }
+{
+    key[k] = b;
+    k + 1
+}
+
+// Four bytes, the lowest first.
+fn put_word(key: &mut [u8], k: usize, n: u32) -> usize
+    requires { ⌜ k + 4 ≤ length (now key) ⌝ }
+    ensures { λ r. ⌜ Put (now (key .entry)) k (word n) (now (key .exit)) r ⌝ }
+{
+    let n1 = n / 256;
+    let n2 = n1 / 256;
+    let n3 = n2 / 256;
+    key[k] = (n % 256) as u8;
+    key[k + 1] = (n1 % 256) as u8;
+    key[k + 2] = (n2 % 256) as u8;
+    key[k + 3] = (n3 % 256) as u8;
+    k + 4
+}
+
+fn put_bytes(key: &mut [u8], k: usize, part: &[u8]) -> usize
+    requires { ⌜ k + length (now part) ≤ length (now key) ⌝ }
+    ensures { λ r. ⌜ Put (now (key .entry)) k (now (part .entry)) (now (key .exit)) r ⌝ }
+{
+    let mut i = 0;
+    while i < part.len() {
+        key[k + i] = part[i];
+        i = i + 1;
+    }
+    k + i
+}
+
+// How many bytes the next text record holds, where so many are left.
+fn next_count(left: usize) -> usize
+    ensures { λ r. ⌜ r ≡ min 16 left ⌝ }
+{
+    if left < 16 { left } else { 16 }
+}
+
+fn put_texts(key: &mut [u8], k: usize, text: &[u8]) -> usize
+    requires { ⌜ k + length (texts (now text)) ≤ length (now key) ⌝ }
+    ensures { λ r. ⌜ Put (now (key .entry)) k (texts (now (text .entry))) (now (key .exit)) r ⌝ }
+{
+    let mut i = 0;
+    let mut at = k;
+    while i < text.len() {
+        let n = next_count(text.len() - i);
+        let end = i + n;
+        let after = put_byte(key, at, 128 + n as u8);
+        at = put_bytes(key, after, &text[i..end]);
+        i = end;
+    }
+    at
+}
+
+// The length, and behind it the suffix start where the body has eight bytes.
+fn put_body(key: &mut [u8], k: usize, body: u8, len: u32, suffix: u32) -> usize
+    requires { ⌜ BodyFits body k (now key) ⌝ }
+    ensures { λ r. ⌜ Put (now (key .entry)) k (take body (word len ++ word suffix)) (now (key .exit)) r ⌝ }
+{
+    let a = put_word(key, k, len);
+    if body == 4 {
+        return a;
+    }
+    put_word(key, a, suffix)
+}
+
+// A kind that stands in the key, its body and its text records.
+fn put_record(key: &mut [u8], k: usize, kind: u32, body: u8, suffix: u32, text: &[u8]) -> usize
+    requires { ⌜ Writable body k kind suffix (now text) (now key) ⌝ }
+    ensures { λ r. ⌜ Put (now (key .entry)) k (encode (held (member kind suffix (now (text .entry))))) (now (key .exit)) r ⌝ }
+{
+    let a = put_byte(key, k, kind as u8);
+    if body == 0 {
+        return a;
+    }
+    let b = put_body(key, a, body, text.len() as u32, suffix);
+    put_texts(key, b, text)
+}
+
+// How many bytes a record takes, by its body and the length of its text.
+fn record_size(body: u8, len: usize) -> usize
+    requires { ⌜ len ≤ 4294967295 ⌝ }
+    ensures { λ r. ⌜ r ≡ sizeBy body len ⌝ }
+{
+    if body == 0 {
+        return 1;
+    }
+    1 + body as usize + (len + (len + 15) / 16)
+}
+
+// Counts the bytes of a token in the key from place k on, and writes them where `write` says so.
+pub fn put_member(
+    key: &mut [u8],
+    write: bool,
+    k: usize,
+    kind: u32,
+    suffix: u32,
+    text: &[u8],
+    table: &[u8],
+) -> usize
+    requires { ⌜ Ready (now table) write k kind suffix (now text) (now key) ⌝ }
+    ensures { λ r. ⌜ Entered write (now (key .entry)) k (entry (member kind suffix (now (text .entry)))) (now (key .exit)) r ⌝ }
+{
+    let body = body_length(table, kind);
+    if body == NO_BODY {
+        return k;
+    }
+    if write {
+        return put_record(key, k, kind, body, suffix, text);
+    }
+    k + record_size(body, text.len())
+}

@@ -1,0 +1,92 @@
+// The key of a whole text.
+ghost use mathlib.Core.Path.{_≡_};
+ghost use mathlib.Core.Bool.{true};
+ghost use Prim.Native.Nat.{_≤_};
+ghost use lib.ListN.{length};
+ghost use Rattle.text.specs.Answer.{longest};
+ghost use Rattle.lexer.specs.Outcome.{tokensOf};
+ghost use Rattle.lexer.specs.Unicode.{lent};
+ghost use Rattle.renewal.specs.Key.{keyBy};
+ghost use Rattle.renewal.specs.Steps.{bodies, cutBy, Walked, Stored};
+use crate::records::put_member;
+use crate::table;
+use lexer::advance::advance_token;
+use text::Answer;
+use unicode::tables;
+
+// Sizes the key, and writes it where `write` says so: one loop for both, so that the cutter is compiled into it once.
+fn walk(
+    text: &[u8],
+    profile: u32,
+    write: bool,
+    key: &mut [u8],
+    body: &[u8],
+    start: &[u32],
+    more: &[u32],
+    emoji: &[u32],
+) -> usize
+    requires { ⌜ (length (now text) ≤ longest) × (now body ≡ bodies) × (write ≡ true → length (keyBy (cutBy (lent (now start) (now more) (now emoji)) profile) (now text)) ≤ length (now key)) ⌝ }
+    ensures { λ r. ⌜ Walked (cutBy (lent (now (start .entry)) (now (more .entry)) (now (emoji .entry))) profile) (now (text .entry)) write (now (key .entry)) r (now (key .exit)) ⌝ }
+{
+    let mut at: usize = 0;
+    let mut n: usize = 0;
+    while at < text.len() {
+        let t = advance_token(text, at, profile, start, more, emoji);
+        let suffix = (t.mark - at) as u32;
+        let end = t.end;
+        n = put_member(key, write, n, t.kind, suffix, &text[at..end], body);
+        at = end;
+    }
+    n
+}
+
+// For a text that passed the checks. Where there is room for eleven bytes of key for each byte of text it cannot be short, and
+// nothing is sized first.
+fn store(
+    text: &[u8],
+    profile: u32,
+    key: &mut [u8],
+    body: &[u8],
+    start: &[u32],
+    more: &[u32],
+    emoji: &[u32],
+) -> Answer
+    requires { ⌜ (length (now text) ≤ longest) × (now body ≡ bodies) ⌝ }
+    ensures { λ r. ⌜ Stored (cutBy (lent (now (start .entry)) (now (more .entry)) (now (emoji .entry))) profile) (now (text .entry)) (now (key .entry)) (r .number) (r .also) (now (key .exit)) ⌝ }
+{
+    if text.len() <= key.len() / 11 {
+        let n = walk(text, profile, true, key, body, start, more, emoji);
+        return Answer {
+            number: text::DONE,
+            also: n as u64,
+        };
+    }
+    let n = walk(text, profile, false, key, body, start, more, emoji);
+    if key.len() < n {
+        return Answer {
+            number: text::ROOM_TOO_SMALL,
+            also: n as u64,
+        };
+    }
+    walk(text, profile, true, key, body, start, more, emoji);
+    Answer {
+        number: text::DONE,
+        also: n as u64,
+    }
+}
+
+// Lends the tables, once for the whole text.
+pub fn lend(text: &[u8], profile: u32, key: &mut [u8]) -> Answer
+    requires { ⌜ length (now text) ≤ longest ⌝ }
+    ensures { λ r. ⌜ Stored (tokensOf profile) (now (text .entry)) (now (key .entry)) (r .number) (r .also) (now (key .exit)) ⌝ }
+{
+    store(
+        text,
+        profile,
+        key,
+        &table::BODY,
+        &tables::XID_START,
+        &tables::XID_CONTINUE,
+        &tables::EMOJI,
+    )
+}
