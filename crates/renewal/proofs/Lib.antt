@@ -9,3 +9,4 @@ pub mod Cutter
 pub mod Exactly
 pub mod Whole
 pub mod RulesOut
+pub mod Newline
