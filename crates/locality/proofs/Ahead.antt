@@ -1,9 +1,9 @@
 -- Tokens that have two whole characters behind them are the same however the text goes on.
 -- Assumes nothing.
-use Prim.Native.Nat.{ℕ, _+_, _≤_}
+use Prim.Native.Nat.{ℕ, _≤_}
 use native.Mathlib.Omega.{arith}
-use mathlib.Core.Path.{_≡_, refl, ap, sym, subst, _∙_}
-use mathlib.Core.List.{List, [], _∷_, _++_, append-assoc, append-nil}
+use mathlib.Core.Path.{_≡_, refl, ap, sym, _∙_}
+use mathlib.Core.List.{List, [], _∷_, _++_}
 use lib.ListN.{length}
 use Rattle.unicode.specs.Utf8.{chars, width, Encoded, WellFormed}
 use Rattle.unicode.specs.Text.{bytes}
@@ -15,31 +15,20 @@ use Rattle.tokens.specs.Tiling.{total}
 use Rattle.locality.specs.Phases.{act, Usual}
 use Rattle.locality.specs.Counted.{Item}
 use Rattle.locality.proofs.Phases.{two, ends}
-use Rattle.locality.proofs.Swap.{Always, swap-front, swap-two}
-use Rattle.locality.proofs.Between.{texts, Cuts, none, more, cuts-text, piece-swap, begins}
-use Rattle.locality.proofs.Clause.{unicode-usual, split, cuts-tokens, total-bytes, encode-bytes, read-all}
+use Rattle.locality.proofs.Swap.{swap-two}
+use Rattle.locality.proofs.Cuts.{texts, Cuts, cuts-text, split, cuts-tokens, total-bytes}
+use Rattle.locality.proofs.Between.{piece-swap, cuts-swap}
+use Rattle.locality.proofs.Written.{encode-bytes, read-all}
+use Rattle.locality.proofs.Clause.{unicode-usual}
 
 module _ (u : Letters) (usual : Usual u) (profile : ℕ) where
   -- ---- one token, on characters
   pub piece-ahead : (c : ℕ) (e : List ℕ) (x y : ℕ) (r s : List ℕ) (k : Tok) → piece u profile c (e ++ x ∷ y ∷ r) ≡ (k, x ∷ y ∷ r) → piece u profile c (e ++ x ∷ y ∷ s) ≡ (k, x ∷ y ∷ s)
   piece-ahead c e x y r s k h = piece-swap u usual profile (swap-two (act u) (ends u) (two u) x y r s) c e k tt h
 
-  -- ---- tokens, behind which anything stands that may be swapped
-  pub cuts-swap : {r s : List ℕ} → Always (act u) r s → {i : List Item} {l : List ℕ} → Cuts u usual profile i l r → Cuts u usual profile i (texts i ++ s) s
-  unfolding texts
-  cuts-swap w none = none
-  cuts-swap {s = s} w (more {i = []} {k = k} {c = c} {e = e} h z none) =
-      more (ap (λ (v : List ℕ). c ∷ (v ++ s)) (append-nil e)) (piece-swap u usual profile w c e k tt z) none
-  cuts-swap {s = s} w (more {i = a ∷ i} {k = k} {c = c} {e = e} h z rest) =
-      let d = begins u usual profile rest in
-      let m : (a .1 ++ texts i) ++ s ≡ d .head ∷ ((d .behind ++ texts i) ++ s) = ap (λ (v : List ℕ). (v ++ texts i) ++ s) (d .text) in
-      let q = piece-swap u usual profile (swap-front (act u) (ends u) (two u) w (d .head) (d .behind ++ texts i)) c e k tt (rw (d .whole) at z) in
-      more (ap (λ (v : List ℕ). c ∷ v) (append-assoc e (a .1 ++ texts i) s))
-      (subst (λ (v : List ℕ). piece u profile c (e ++ v) ≡ (k, v)) (sym m) q) (cuts-swap w rest)
-
   -- TWO CHARACTERS BEHIND, on characters: where tokens are cut from a text and x ∷ y ∷ r is left, the same are cut from what they took, and x ∷ y ∷ s is left
-  pub ahead-chars : (i : List Item) {l : List ℕ} (x y : ℕ) (r s : List ℕ) → Cuts u usual profile i l (x ∷ y ∷ r) → Cuts u usual profile i (texts i ++ x ∷ y ∷ s) (x ∷ y ∷ s)
-  ahead-chars i x y r s h = cuts-swap (swap-two (act u) (ends u) (two u) x y r s) h
+  pub ahead-chars : (i : List Item) {l : List ℕ} (x y : ℕ) (r s : List ℕ) → Cuts u profile i l (x ∷ y ∷ r) → Cuts u profile i (texts i ++ x ∷ y ∷ s) (x ∷ y ∷ s)
+  ahead-chars i x y r s h = cuts-swap u usual profile (swap-two (act u) (ends u) (two u) x y r s) h
 
 -- ---- on bytes
 -- two fronts of a list that take as many bytes are the same
@@ -64,12 +53,12 @@ module _ (profile : ℕ) where
   front-same A [] r s p q l h n = absurd (omega arith)
   front-same A (x ∷ []) r s p q l h n = absurd (omega arith)
   front-same A (x ∷ y ∷ D) r s p q l h n =
-      let t = split unicode unicode-usual profile p q (A ++ (x ∷ y ∷ (D ++ r))) h in
-      let e = cuts-text unicode unicode-usual profile (t .cuts) in
-      let m : bytes (texts (t .items)) ≡ bytes A = omega (arith, total-bytes unicode unicode-usual profile (t .cuts), ap total (t .same)) in
+      let t = split unicode profile p q (A ++ (x ∷ y ∷ (D ++ r))) h in
+      let e = cuts-text unicode profile (t .cuts) in
+      let m : bytes (texts (t .items)) ≡ bytes A = omega (arith, total-bytes unicode profile (t .cuts), ap total (t .same)) in
       let f = same-front (texts (t .items)) A (t .left) (x ∷ y ∷ (D ++ r)) (sym e) m in
       let c = ahead-chars unicode unicode-usual profile (t .items) x y (D ++ r) (D ++ s) (rw (f .1) at (t .cuts)) in
-      ap (λ (z : List ℕ). tokens unicode profile (z ++ x ∷ y ∷ (D ++ s))) (sym (f .0)) ∙ cuts-tokens unicode unicode-usual profile c
+      ap (λ (z : List ℕ). tokens unicode profile (z ++ x ∷ y ∷ (D ++ s))) (sym (f .0)) ∙ cuts-tokens unicode profile c
       ∙ ap (λ (z : List Tok). z ++ tokens unicode profile (x ∷ y ∷ (D ++ s))) (t .same)
 
   -- TWO WHOLE CHARACTERS BEHIND: where tokens p of a text take the bytes a, and behind these stand the bytes d of two whole characters or more, then

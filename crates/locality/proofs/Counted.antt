@@ -1,17 +1,16 @@
 -- Which first characters an uncounted token has: a slash, or white space.
 -- Assumes nothing.
-use Prim.Native.Nat.{ℕ, _+_, _*_, _≤_}
+use Prim.Native.Nat.{ℕ, _≤_}
 use native.Mathlib.Omega.{arith}
 use mathlib.Core.Path.{_≡_, refl, ap, sym, _∙_}
-use mathlib.Core.Bool.{Bool, true, false, cond, not, _&&_, _||_, false≢true}
+use mathlib.Core.Bool.{Bool, true, false, cond, not, _&&_, false≢true}
 use mathlib.Core.List.{List, [], _∷_, tail}
 use lib.Dec.{eqb}
-use borrow.Author.Tests.{eqb-true, ne-eqb}
+use borrow.Author.Tests.{ne-eqb}
 use Rattle.lists.specs.All.{all}
 use Rattle.lists.proofs.Bools.{by-test, both, on-cond}
-use Rattle.unicode.specs.Ranges.{inTable}
 use Rattle.unicode.specs.Text.{skip}
-use Rattle.lexer.specs.Chars.{isWhitespace, whitespace}
+use Rattle.lexer.specs.Chars.{isWhitespace}
 use Rattle.lexer.specs.Kinds.{marks, markIn, int, float, bitStr, str, whitespaceKind}
 use Rattle.lexer.specs.Cut.{Letters, Token, Quote, peek, isDigit, isE, block, slash, digits, exponent, exponentOf, point, fraction, based, number, quoted, quoteKind, isBit, withoutLf, twice, pragmaWord, agree, pound, wideEmoji, name, word, annotated, hardware, advance}
 use Rattle.locality.specs.Counted.{isCounted}

@@ -1,8 +1,8 @@
 -- Same ending, same tokens: for every cutter on bytes, and for that of OpenQASM 3 under both profiles.
 -- Assumes nothing.
-use Prim.Native.Nat.{ℕ, zero, suc, _+_, _-_, _≤_}
+use Prim.Native.Nat.{ℕ, zero, suc, _-_, _≤_}
 use native.Mathlib.Omega.{arith}
-use mathlib.Core.Path.{_≡_, refl, ap, sym, _∙_}
+use mathlib.Core.Path.{_≡_, ap, sym, _∙_}
 use mathlib.Core.List.{List, [], _∷_, _++_, cons≢nil}
 use lib.ListN.{length, drop, length-drop}
 use lib.Seq.{drop-drop}

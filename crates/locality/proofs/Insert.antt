@@ -3,8 +3,8 @@
 use Prim.Native.Nat.{ℕ, suc, _+_, _-_, _≤_}
 use native.Mathlib.Omega.{arith}
 use mathlib.Core.Path.{_≡_, refl, ap, ap₂, sym, subst, _∙_}
-use mathlib.Core.Bool.{Bool, true, false, cond, not, _&&_, _||_, false≢true}
-use mathlib.Core.List.{List, [], _∷_, _++_, append-assoc, append-nil, cons≢nil, tail}
+use mathlib.Core.Bool.{Bool, true, false, cond, not, false≢true}
+use mathlib.Core.List.{List, [], _∷_, _++_, append-assoc, tail}
 use mathlib.Core.Logic.{_⊎_, inl, inr}
 use lib.Dec.{eqb, leb}
 use lib.ListN.{length, length-append}
@@ -14,18 +14,17 @@ use Rattle.lists.proofs.Bools.{by-test, both}
 use Rattle.lists.proofs.Ends.{ends-eat, ends-length}
 use Rattle.unicode.specs.Ranges.{inTable}
 use Rattle.unicode.specs.Text.{skip, keep}
-use Rattle.unicode.proofs.Text.{skip-nil, skip-more, skip-stop}
+use Rattle.unicode.proofs.Text.{skip-more, skip-stop}
 use Rattle.lexer.specs.Chars.{isWhitespace, whitespace}
-use Rattle.lexer.specs.Kinds.{lineComment, blockComment, unclosedComment, whitespaceKind, slashMark}
+use Rattle.lexer.specs.Kinds.{lineComment, blockComment, unclosedComment, whitespaceKind}
 use Rattle.lexer.specs.Cut.{Letters, Tok, Token, peek, notLf, opens, closes, block, slash, isUnit, advance, piece}
-use Rattle.lexer.proofs.Shapes.{ends-advance}
-use Rattle.locality.specs.Phases.{act, Usual}
-use Rattle.locality.specs.Counted.{Item, isCounted, counted}
-use Rattle.locality.proofs.Swap.{Swap}
-use Rattle.locality.proofs.Newline.{swap-one, Ended, end-swap}
-use Rattle.locality.proofs.Counted.{others-count, white-first}
-use Rattle.locality.proofs.Between.{texts, counted-join, White, white-none, white-more, white-end, lf-white, all-white, Cuts, none, more, cuts-text, cuts-join, piece-swap, piece-white, Over, one-more, spaces, kind-white}
-use Rattle.locality.proofs.Ahead.{cuts-swap}
+use Rattle.locality.specs.Phases.{Usual}
+use Rattle.locality.specs.Counted.{Item, isCounted, counted, noneCount, lastIs, isLine}
+use Rattle.locality.proofs.Newline.{swap-one}
+use Rattle.locality.proofs.Counted.{others-count}
+use Rattle.locality.proofs.Cuts.{texts, toks, counted-join, Cuts, none, more, cuts-join, Over, over-self, over-first}
+use Rattle.locality.proofs.White.{White, white-none, white-more, white-isnt, all-white, piece-white, spaces, kind-white, over-white}
+use Rattle.locality.proofs.Between.{cuts-swap}
 
 -- ---- a closed block comment is closed whatever stands behind it
 -- it takes two characters at least
@@ -143,27 +142,28 @@ slash-no-unit : (x y : ℕ) → eqb x 0x2F ≡ true → isUnit x y ≡ false
 unfolding isUnit
 slash-no-unit x y h = rw (eqb-true x 0x2F h)
 
-white-isnt : (x d : ℕ) → isWhitespace x ≡ true → isWhitespace d ≡ false → eqb x d ≡ false
-white-isnt x d h n = by-test (eqb x d) (λ e. absurd (false≢true (sym n ∙ ap isWhitespace (sym (eqb-true x d e)) ∙ h))) (λ e. e)
-
 white-no-unit : (x y : ℕ) → isWhitespace x ≡ true → isUnit x y ≡ false
 unfolding isUnit whitespace inTable
 white-no-unit x y h =
     rw (white-isnt x 0x73 h refl, white-isnt x 0x64 h refl, white-isnt x 0x6E h refl, white-isnt x 0x75 h refl, white-isnt x 0x6D h refl, white-isnt x 0xB5 h refl, white-isnt x 0x69 h refl)
 
-module _ (u : Letters) (usual : Usual u) (profile : ℕ) where
-  -- ---- an uncounted token first
-  over-first : {j : List Item} (c : ℕ) (t : List ℕ) → isCounted (advance u profile c t .kind) ≡ false → Over u usual profile j [] (advance u profile c t .rest) → Over u usual profile j [] (c ∷ t)
-  unfolding counted piece
-  over-first {j} c t h o =
-      let d = ends-advance u profile c t in
-      let k = piece u profile c t .0 in
-      record {
-        new = (k, c ∷ d .front) ∷ o .new;
-        cuts = more (ap (λ (y : List ℕ). c ∷ y) (d .is)) (subst (λ (y : List ℕ). piece u profile c y ≡ (k, advance u profile c t .rest)) (d .is) refl) (o .cuts);
-        same = rw h (o .same);
-      }
+-- ---- white space, and a closed block comment
+abbrev pub Free : ℕ → Type 0
+Free k = (k ≡ blockComment) ⊎ (k ≡ whitespaceKind)
 
+pub free-uncounted : {k : ℕ} → Free k → isCounted k ≡ false
+unfolding isCounted
+free-uncounted (inl w) = rw w
+free-uncounted (inr w) = rw w
+
+pub three : (k : ℕ) → isCounted k ≡ false → (k ≡ lineComment) ⊎ Free k
+unfolding isCounted
+three k h =
+    by-test (eqb k lineComment) (λ a. inl (eqb-true k lineComment a))
+    (λ a. by-test (eqb k blockComment) (λ b. inr (inl (eqb-true k blockComment b)))
+    (λ b. by-test (eqb k whitespaceKind) (λ c. inr (inr (eqb-true k whitespaceKind c))) (λ c. absurd (false≢true (sym h ∙ rw (a, b, c))))))
+
+module _ (u : Letters) (usual : Usual u) (profile : ℕ) where
   -- its first character is a slash, where it is a comment
   slash-first : (c : ℕ) (t : List ℕ) → isCounted (advance u profile c t .kind) ≡ false → (advance u profile c t .kind ≡ whitespaceKind → ⊥) → eqb c 0x2F ≡ true
   unfolding advance
@@ -175,16 +175,13 @@ module _ (u : Letters) (usual : Usual u) (profile : ℕ) where
   unfolding advance
   advance-slash c t h = rw h
 
-  -- ---- behind white space, and behind a closed block comment, stands what stood there with anything uncounted in front
-  abbrev Free : ℕ → Type 0
-  Free k = (k ≡ blockComment) ⊎ (k ≡ whitespaceKind)
-
-  over-behind : {j : List Item} (c : ℕ) (e r s : List ℕ) (k : Tok) → piece u profile c (e ++ r) ≡ (k, r) → Free (k .kind) → Over u usual profile j [] s → Over u usual profile j [] (c ∷ (e ++ s))
+  -- ---- behind white space and behind a closed block comment anything may stand
+  over-behind : {j : List Item} (c : ℕ) (e r s : List ℕ) (k : Tok) → piece u profile c (e ++ r) ≡ (k, r) → Free (k .kind) → Over u profile j [] s → Over u profile j [] (c ∷ (e ++ s))
   unfolding piece counted isCounted
   over-behind {j} c e r s k h (inr w) o =
-      let b = kind-white u usual profile c (e ++ r) r k h w in
-      let v = all-white e r (ap (λ (y : Tok × List ℕ). y .1) (sym (piece-white u usual profile c (e ++ r) b) ∙ h)) in
-      let n = spaces u usual profile c e b v (o .cuts) in
+      let b = kind-white u profile c (e ++ r) r k h w in
+      let v = all-white e r (ap (λ (y : Tok × List ℕ). y .1) (sym (piece-white u profile c (e ++ r) b) ∙ h)) in
+      let n = spaces u profile c e b v (o .cuts) in
       record { new = n .new; cuts = n .cuts; same = n .same ∙ o .same }
   over-behind {j} c e r s k h (inl w) o =
       let kind : advance u profile c (e ++ r) .kind ≡ blockComment = ap (λ (y : Tok × List ℕ). y .0 .kind) h ∙ w in
@@ -193,7 +190,7 @@ module _ (u : Letters) (usual : Usual u) (profile : ℕ) where
       let g : slash (e ++ r) ≡ (blockComment, r) =
       ap₂ (λ (x : ℕ) (y : List ℕ). (x, y)) (ap (λ (y : Token). y .kind) (sym a) ∙ kind) (ap (λ (y : Token). y .rest) (sym a) ∙ ap (λ (y : Tok × List ℕ). y .1) h) in
       let b : advance u profile c (e ++ s) ≡ record { kind = blockComment; mark = c ∷ (e ++ s); rest = s } = advance-slash c (e ++ s) f ∙ rw (slash-ahead e r s g) in
-      over-first c (e ++ s) (rw b) (rw b o)
+      over-first u profile c (e ++ s) (rw b) (rw b o)
 
   -- ---- behind a line comment stands white space
   kind-line : (c : ℕ) (e r : List ℕ) (k : Tok) → piece u profile c (e ++ r) ≡ (k, r) → k .kind ≡ lineComment → (eqb c 0x2F ≡ true) × (slash (e ++ r) ≡ (lineComment, r))
@@ -204,12 +201,12 @@ module _ (u : Letters) (usual : Usual u) (profile : ℕ) where
       let a = advance-slash c (e ++ r) f in
       (f, ap₂ (λ (x : ℕ) (y : List ℕ). (x, y)) (ap (λ (y : Token). y .kind) (sym a) ∙ kind) (ap (λ (y : Token). y .rest) (sym a) ∙ ap (λ (y : Tok × List ℕ). y .1) h))
 
-  over-line : {j : List Item} (c : ℕ) (e r s : List ℕ) (k : Tok) → piece u profile c (e ++ r) ≡ (k, r) → k .kind ≡ lineComment → Over u usual profile j [] (skip notLf s) → Over u usual profile j [] (c ∷ (e ++ s))
+  over-line : {j : List Item} (c : ℕ) (e r s : List ℕ) (k : Tok) → piece u profile c (e ++ r) ≡ (k, r) → k .kind ≡ lineComment → Over u profile j [] (skip notLf s) → Over u profile j [] (c ∷ (e ++ s))
   unfolding isCounted
   over-line c e r s k h w o =
       let l = kind-line c e r k h w in
       let b : advance u profile c (e ++ s) ≡ record { kind = lineComment; mark = c ∷ (e ++ s); rest = skip notLf s } = advance-slash c (e ++ s) (l .0) ∙ rw (line-ahead e r s (l .1)) in
-      over-first c (e ++ s) (rw b) (rw b o)
+      over-first u profile c (e ++ s) (rw b) (rw b o)
 
   -- the rest of it begins with an LF, or is empty
   line-rest : (c : ℕ) (e r : List ℕ) (k : Tok) → piece u profile c (e ++ r) ≡ (k, r) → k .kind ≡ lineComment → skip notLf r ≡ r
@@ -218,12 +215,69 @@ module _ (u : Letters) (usual : Usual u) (profile : ℕ) where
       let q = line-ahead e r r (l .1) in
       ap (λ (y : ℕ × List ℕ). y .1) (sym q ∙ l .1)
 
-  over-self : {j : List Item} {l : List ℕ} → Cuts u usual profile j l [] → Over u usual profile j [] l
-  unfolding counted
-  over-self {j} c = record { new = j; cuts = c; same = refl }
-
-  over-blank : {j : List Item} {v : List ℕ} (r : List ℕ) → White v → skip notLf r ≡ r → Cuts u usual profile j r [] → Over u usual profile j [] (skip notLf (v ++ r))
-  over-blank r white-none e c = rw e (over-self c)
+  over-blank : {j : List Item} {v : List ℕ} (r : List ℕ) → White v → skip notLf r ≡ r → Cuts u profile j r [] → Over u profile j [] (skip notLf (v ++ r))
+  over-blank r white-none e c = rw e (over-self u profile c)
   over-blank r (white-more {c = d} {w = v} h x) e c =
       let ih = over-blank r x e c in
-      by-test (notLf d) (λ a. rw (skip-more notLf d (v ++ r) a) ih) (λ a. rw (skip-stop notLf d (v ++ r) a) (spaces u usual profile d v h x c))
+      by-test (notLf d) (λ a. rw (skip-more notLf d (v ++ r) a) ih) (λ a. rw (skip-stop notLf d (v ++ r) a) (spaces u profile d v h x c))
+
+  -- ---- tokens that do not count, the last of them no line comment, in front of anything
+  -- what is left of a line comment, behind which there are tokens, begins with an LF: with more behind it too
+  rest-more : (r z : List ℕ) → skip notLf r ≡ r → 1 ≤ length r → skip notLf (r ++ z) ≡ r ++ z
+  rest-more [] z e n = absurd (omega arith)
+  rest-more (x ∷ r) z e n =
+      by-test (notLf x) (λ a. absurd (omega (arith, ap length (sym (skip-more notLf x r a) ∙ e), skip-short notLf r)))
+      (λ a. skip-stop notLf x (r ++ z) a)
+
+  some-left : {w : List Item} {r z : List ℕ} → Cuts u profile w r z → 1 ≤ length w → 1 ≤ length r
+  some-left none n = absurd (omega arith)
+  some-left (more h x rest) n = rw h (omega arith)
+
+  absorb-one : {j : List Item} (c : ℕ) (e r s : List ℕ) (k : Tok) → piece u profile c (e ++ r) ≡ (k, r) → not (isCounted (k .kind)) ≡ true → (k .kind ≡ lineComment → skip notLf s ≡ s) →
+      Over u profile j [] s → Over u profile j [] (c ∷ (e ++ s))
+  absorb-one {j} c e r s k h n f o =
+      elim (three (k .kind) (not-true (isCounted (k .kind)) n)) [
+        | inl w ↦ over-line c e r s k h w (subst (λ (y : List ℕ). Over u profile j [] y) (sym (f w)) o)
+        | inr w ↦ over-behind c e r s k h w o
+      ]
+
+  pub absorbed : {w j : List Item} {v z y : List ℕ} → Cuts u profile w v y → y ≡ [] → noneCount (toks w) ≡ true → lastIs isLine (toks w) ≡ false → Over u profile j [] z → Over u profile j [] (v ++ z)
+  unfolding all lastIs
+  absorbed none q a l o = rw q o
+  absorbed {j = j} {z = z} (more {i = []} {k = k} {c = c} {e = e} {r = r} h x none) q a l o =
+      let n = both (not (isCounted (k .kind))) true a in
+      rw (h, append-assoc e r z, q) (absorb-one c e r z k x (n .0) (λ w. absurd (eqb-false (k .kind) lineComment l w)) o)
+  absorbed {j = j} {z = z} (more {i = b ∷ i} {k = k} {c = c} {e = e} {r = r} h x rest) q a l o =
+      let n = both (not (isCounted (k .kind))) (noneCount (toks (b ∷ i))) a in
+      let ih : Over u profile j [] (r ++ z) = absorbed rest q (n .1) l o in
+      rw (h, append-assoc e r z) (absorb-one c e r (r ++ z) k x (n .0) (λ w. rest-more r z (line-rest c e r k x w) (some-left rest (omega arith))) ih)
+
+  -- ---- behind tokens, where the first character stays and begins no unit
+  over-front : {i j : List Item} {l t s : List ℕ} (c : ℕ) → ((y : ℕ) → isUnit c y ≡ false) → Cuts u profile i l (c ∷ t) → Over u profile j [] (c ∷ s) → Over u profile j i (texts i ++ c ∷ s)
+  unfolding counted
+  over-front {i} {j} {l} {t} {s} c f h o =
+      let x = cuts-swap u usual profile (swap-one u c t s f) h in
+      record { new = i ++ o .new; cuts = cuts-join u profile x (o .cuts); same = counted-join i (o .new) ∙ ap (λ (y : List Item). counted i ++ y) (o .same) }
+
+  -- the first character of an uncounted token
+  no-unit : (c : ℕ) (e r : List ℕ) (k : Tok) → piece u profile c (e ++ r) ≡ (k, r) → isCounted (k .kind) ≡ false → (y : ℕ) → isUnit c y ≡ false
+  unfolding piece
+  no-unit c e r k h n y =
+      by-test (eqb c 0x2F) (slash-no-unit c y)
+      (λ a. by-test (isWhitespace c) (white-no-unit c y) (λ b. absurd (false≢true (sym (ap (λ (z : Tok × List ℕ). isCounted (z .0 .kind)) h ∙ n) ∙ others-count u profile c (e ++ r) a b))))
+
+  -- ---- PUT DIRECTLY BEHIND white space or a closed block comment: any text of tokens that do not count, the last of them no line comment
+  pub insert-chars : {i w j : List Item} {l r v : List ℕ} (c : ℕ) (e : List ℕ) (k : Tok) → Cuts u profile i l (c ∷ (e ++ r)) → piece u profile c (e ++ r) ≡ (k, r) → Free (k .kind) →
+      Cuts u profile j r [] → Cuts u profile w v [] → noneCount (toks w) ≡ true → lastIs isLine (toks w) ≡ false → Over u profile j i (texts i ++ c ∷ (e ++ (v ++ r)))
+  insert-chars {r = r} {v = v} c e k h x f b w n l =
+      over-front c (no-unit c e r k x (free-uncounted f)) h (over-behind c e r (v ++ r) k x f (absorbed w refl n l (over-self u profile b)))
+
+  -- PUT DIRECTLY BEHIND any token that does not count: white space
+  pub insert-white : {i j : List Item} {l r v : List ℕ} (c : ℕ) (e : List ℕ) (k : Tok) → Cuts u profile i l (c ∷ (e ++ r)) → piece u profile c (e ++ r) ≡ (k, r) → isCounted (k .kind) ≡ false →
+      Cuts u profile j r [] → White v → Over u profile j i (texts i ++ c ∷ (e ++ (v ++ r)))
+  insert-white {r = r} {v = v} c e k h x n b w =
+      over-front c (no-unit c e r k x n) h
+      (elim (three (k .kind) n) [
+        | inl z ↦ over-line c e r (v ++ r) k x z (over-blank r w (line-rest c e r k x z) b)
+        | inr z ↦ over-behind c e r (v ++ r) k x z (over-white u profile w b)
+      ])

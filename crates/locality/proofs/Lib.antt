@@ -3,8 +3,13 @@ pub mod Phases
 pub mod Swap
 pub mod Newline
 pub mod Counted
+pub mod Cuts
+pub mod White
 pub mod Between
+pub mod Written
 pub mod Clause
 pub mod Cutter
 pub mod Ahead
 pub mod Insert
+pub mod Corollaries
+pub mod Feed

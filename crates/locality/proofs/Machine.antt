@@ -3,17 +3,17 @@
 -- Assumes nothing.
 use Prim.Native.Nat.{ℕ, _+_, _-_, _≤_}
 use native.Mathlib.Omega.{arith}
-use mathlib.Core.Path.{_≡_, refl, ap, ap₂, sym, _∙_}
+use mathlib.Core.Path.{_≡_, refl, ap₂}
 use mathlib.Core.Bool.{Bool, true, false, cond}
-use mathlib.Core.List.{List, [], _∷_, _++_}
-use lib.ListN.{length, length-append}
+use mathlib.Core.List.{List, [], _∷_}
+use lib.ListN.{length}
 use Rattle.lists.specs.Eat.{eat}
 use Rattle.lists.proofs.Bools.{by-test}
 use Rattle.lists.proofs.Eat.{eat-nil, eat-more, eat-stop}
 use Rattle.unicode.specs.Utf8.{width}
 use Rattle.unicode.specs.Text.{bytes}
 use Rattle.lexer.specs.Cut.{Tok, Token}
-use Rattle.locality.specs.Machine.{Act, eats, halts, ended, run, LooksAtTwo}
+use Rattle.locality.specs.Machine.{Act, eats, halts, ended, run}
 
 module _ {Q : Type 0} (act : Q → List ℕ → Act Q) where
   -- ---- one step

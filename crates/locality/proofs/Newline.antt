@@ -1,19 +1,19 @@
 -- A newline for what stands behind a token: it ends every token just as well, but white space.
 -- Assumes nothing.
-use Prim.Native.Nat.{ℕ, zero, suc, _-_}
+use Prim.Native.Nat.{ℕ, suc, _-_}
 use native.Mathlib.Omega.{arith}
 use mathlib.Core.Path.{_≡_, refl, ap, sym, subst, _∙_}
 use mathlib.Core.Bool.{Bool, true, false, cond, not, _&&_, _||_, false≢true}
 use mathlib.Core.List.{List, [], _∷_}
 use lib.Dec.{eqb, leb}
 use borrow.Author.Tests.{eqb-true}
-use Rattle.lists.proofs.Bools.{by-test, and-false, on-cond}
+use Rattle.lists.proofs.Bools.{by-test, on-cond}
 use Rattle.lexer.specs.Chars.{isWhitespace}
-use Rattle.lexer.specs.Kinds.{unclosedComment, whitespaceKind, invalidIdent, annotation, atSign, int, float, ident, hardwareIdent, dollar, pragma}
+use Rattle.lexer.specs.Kinds.{unclosedComment, whitespaceKind, invalidIdent, annotation, atSign, int, float, pragma}
 use Rattle.lexer.specs.Cut.{Letters, peek, notLf, isDigit, isHexDigit, isE, orUnderscore, met, opens, closes, isUnit, wideEmoji, goesOn}
 use Rattle.locality.specs.Machine.{Act, eats, halts}
 use Rattle.locality.specs.Phases as Phases
-use Rattle.locality.specs.Phases.{seeing, seenKind, Phase, behindSlash, line, inside, into, closing, closed, space, emojiName, spelling, behindAt, behindDollar, wire, zeroFirst, figures, pointed, decimals, behindE, power, quote, quoteClosed, suffixed, single, Seen, letter, figure, lineActs, insideActs, quoteActs, wireActs, suffixActs, numberEnds, fractionActs, figureActs, powerActs, nameActs, act, Usual}
+use Rattle.locality.specs.Phases.{seenKind, Phase, behindSlash, line, inside, into, closing, closed, space, emojiName, spelling, behindAt, behindDollar, wire, zeroFirst, figures, pointed, decimals, behindE, power, quote, quoteClosed, suffixed, single, Seen, letter, figure, lineActs, wireActs, suffixActs, numberEnds, fractionActs, figureActs, powerActs, nameActs, act, Usual}
 use Rattle.locality.proofs.Phases.{no-letter}
 use Rattle.locality.proofs.Swap.{Swap, Always}
 

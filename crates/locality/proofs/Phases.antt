@@ -1,8 +1,8 @@
 -- The machine of `specs/Phases.antt` cuts as the rules of `lexer/specs/Cut.antt` say: for each state, what the machine finds from there on.
 -- Assumes nothing.
-use Prim.Native.Nat.{ℕ, zero, suc, _+_, _-_, _≤_, _<_}
+use Prim.Native.Nat.{ℕ, zero, suc, _-_, _≤_, _<_}
 use native.Mathlib.Omega.{arith}
-use mathlib.Core.Path.{_≡_, refl, ap, ap₂, sym, subst, _∙_, fun-ext}
+use mathlib.Core.Path.{_≡_, refl, ap, sym, subst, _∙_, fun-ext}
 use mathlib.Core.Bool.{Bool, true, false, cond, not, _&&_, _||_, false≢true}
 use mathlib.Core.List.{List, [], _∷_, tail}
 use lib.Dec.{eqb, leb}
@@ -18,10 +18,10 @@ use Rattle.unicode.specs.Text.{bytes, skip, keep}
 use Rattle.unicode.proofs.Text.{skip-nil, skip-more, skip-stop}
 use Rattle.lexer.specs.Chars.{isWhitespace}
 use Rattle.lexer.specs.Kinds.{lineComment, blockComment, unclosedComment, whitespaceKind, ident, hardwareIdent, invalidIdent, pragma, annotation, atSign, dollar, slashMark, unknown, marks, markIn, int, float, str, bitStr}
-use Rattle.lexer.specs.Cut.{Letters, Token, Tok, peek, notLf, isDigit, isHexDigit, isE, orUnderscore, met, opens, closes, block, slash, digits, exponent, exponentOf, point, fraction, based, number, isUnit, escapes, quoted, quoteKind, isBit, withoutLf, twice, pragmaWord, agree, pound, Quote, wideEmoji, goesOn, name, word, annotated, hardware, identifier, suffix, advance, piece, tokens}
+use Rattle.lexer.specs.Cut.{Letters, Token, Tok, peek, notLf, isDigit, isE, orUnderscore, met, opens, closes, block, slash, digits, exponent, exponentOf, point, fraction, based, number, isUnit, escapes, quoted, quoteKind, isBit, withoutLf, twice, pragmaWord, agree, pound, Quote, wideEmoji, goesOn, name, word, annotated, hardware, identifier, suffix, advance, piece, tokens}
 use Rattle.locality.specs.Machine.{Act, eats, halts, run, LooksAtTwo, cutBy}
 use Rattle.locality.specs.Phases as Phases
-use Rattle.locality.specs.Phases.{Seen, bits, broken, other, seeing, seenKind, Phase, behindSlash, line, inside, into, closing, closed, space, emojiName, spelling, behindAt, behindDollar, wire, zeroFirst, figures, pointed, decimals, behindE, power, quote, quoteClosed, suffixed, single, nextIs, letter, figure, lineActs, wireActs, suffixActs, numberEnds, fractionActs, nameActs, act, first, Usual}
+use Rattle.locality.specs.Phases.{Seen, bits, broken, other, seeing, seenKind, Phase, behindSlash, line, inside, into, closing, closed, space, emojiName, spelling, behindAt, behindDollar, wire, zeroFirst, figures, pointed, decimals, behindE, power, quote, quoteClosed, suffixed, single, nextIs, letter, figure, suffixActs, numberEnds, fractionActs, act, first, Usual}
 use Rattle.locality.proofs.Machine.{walk, walk-eats, walk-halts, walk-same, walk-while, countedFrom, run-walk}
 
 -- where eating stops, no next character passes the test
@@ -30,10 +30,6 @@ eat-rest p g s [] = rw (eat-nil p g s)
 eat-rest p g s (c ∷ t) =
     let ih = eat-rest p g (g s c) t in
     by-test (p c) (λ h. rw (eat-more p g s c t h) ih) (λ h. rw (eat-stop p g s c t h) h)
-
-pub skip-rest : (p : ℕ → Bool) (l : List ℕ) → nextIs p (skip p l) ≡ false
-unfolding skip
-skip-rest p l = eat-rest p keep tt l
 
 -- what is left does not depend on the state
 eat-left : {S : Type 0} (p : ℕ → Bool) (g : S → ℕ → S) (s s′ : S) (l : List ℕ) → eat p g s l .1 ≡ eat p g s′ l .1

@@ -7,7 +7,7 @@ use mathlib.Core.List.{List, [], _∷_, _++_}
 use lib.Dec.{eqb}
 use lib.ListN.{length, take, drop}
 use Rattle.lists.specs.All.{all}
-use Rattle.lexer.specs.Kinds.{lineComment, blockComment, whitespaceKind}
+use Rattle.lexer.specs.Kinds.{lineComment, blockComment, unclosedComment, whitespaceKind, str, bitStr}
 use Rattle.lexer.specs.Cut.{Tok}
 use Rattle.lexer.specs.Outcome.{tokensOf}
 use Rattle.tokens.specs.Tiling.{total}
@@ -24,11 +24,19 @@ unfoldable pub counted : List Item → List Item
 counted [] = []
 counted (i ∷ is) = cond (isCounted (i .0 .kind)) (i ∷ counted is) (counted is)
 
--- the last token is a line comment, which goes on with what is put behind it
-unfoldable pub endsInLine : List Tok → Bool
-endsInLine [] = false
-endsInLine (t ∷ []) = eqb (t .kind) lineComment
-endsInLine (t ∷ x ∷ ts) = endsInLine (x ∷ ts)
+-- the last token passes a test
+unfoldable pub lastIs : (ℕ → Bool) → List Tok → Bool
+lastIs p [] = false
+lastIs p (t ∷ []) = p (t .kind)
+lastIs p (t ∷ x ∷ ts) = lastIs p (x ∷ ts)
+
+-- a line comment, which goes on with what is put behind it
+abbrev pub isLine : ℕ → Bool
+isLine k = eqb k lineComment
+
+-- an unclosed comment or an unclosed quoted text, which does so too
+abbrev pub isOpen : ℕ → Bool
+isOpen k = eqb k unclosedComment || (eqb k (str false) || (eqb k (bitStr false false) || eqb k (bitStr false true)))
 
 -- no token counts
 abbrev pub noneCount : List Tok → Bool
@@ -57,3 +65,14 @@ pub record Run (profile : ℕ) (s : List ℕ) (from to : ℕ) : Type 0 where
 -- one newline in place of the bytes from one place to another
 unfoldable pub withNewline : List ℕ → ℕ → ℕ → List ℕ
 withNewline s from to = take from s ++ 0x0A ∷ drop to s
+
+-- a token of s ends at a place
+pub record EndsAt (profile : ℕ) (s : List ℕ) (at : ℕ) (t : Tok) : Type 0 where
+  pub before : List Tok
+  pub behind : List Tok
+  pub is : tokensOf profile s ≡ before ++ (t ∷ behind)
+  pub place : at ≡ total before + t .len
+
+-- bytes v put in at a place
+unfoldable pub inserted : List ℕ → ℕ → List ℕ → List ℕ
+inserted s at v = take at s ++ (v ++ drop at s)

@@ -1,0 +1,76 @@
+-- Characters written as bytes, and the counted tokens of a text of bytes by the cuts of its characters.
+-- Assumes nothing.
+use Prim.Native.Nat.{ℕ}
+use native.Mathlib.Omega.{arith}
+use mathlib.Core.Path.{_≡_, refl, ap, sym, _∙_}
+use mathlib.Core.Bool.{Bool, true}
+use mathlib.Core.List.{List, [], _∷_, _++_, append-assoc, append-nil}
+use lib.ListN.{length, length-append}
+use lib.Seq.{take-at, drop-at}
+use Rattle.lists.specs.All.{all}
+use Rattle.lists.proofs.Bools.{by-test, both}
+use Rattle.unicode.specs.Utf8.{chars, isScalar, encode, encodeAll}
+use Rattle.unicode.specs.Text.{bytes}
+use Rattle.unicode.proofs.Encode.{scalar, encode-long}
+use Rattle.unicode.proofs.Text.{chars-nil}
+use Rattle.unicode.proofs.Valid.{read-back}
+use Rattle.lexer.specs.Cut.{Letters, Tok, tokens}
+use Rattle.lexer.specs.Unicode.{unicode}
+use Rattle.lexer.specs.Outcome.{tokensOf}
+use Rattle.lexer.proofs.Shapes.{tokens-nil}
+use Rattle.locality.specs.Counted.{Item, isCounted, counted, withBytes, countedOf}
+use Rattle.locality.proofs.Cuts.{toks, Cuts, none, more, cuts-tokens, cut-length}
+
+pub encode-append : (a b : List ℕ) → encodeAll (a ++ b) ≡ encodeAll a ++ encodeAll b
+unfolding encodeAll
+encode-append [] b = refl
+encode-append (c ∷ a) b = rw (encode-append a b) (sym (append-assoc (encode c) (encodeAll a) (encodeAll b)))
+
+pub all-append : {A : Type 0} (p : A → Bool) (a b : List A) → all p (a ++ b) ≡ true → (all p a ≡ true) × (all p b ≡ true)
+unfolding all
+all-append p [] b h = (refl, h)
+all-append p (x ∷ a) b h =
+    let e = both (p x) (all p (a ++ b)) h in
+    let i = all-append p a b (e .1) in
+    (rw (e .0, i .0), i .1)
+
+pub all-join : {A : Type 0} (p : A → Bool) (a b : List A) → all p a ≡ true → all p b ≡ true → all p (a ++ b) ≡ true
+unfolding all
+all-join p [] b h k = k
+all-join p (x ∷ a) b h k = let e = both (p x) (all p a) h in rw (e .0, all-join p a b (e .1) k)
+
+pub encode-bytes : (t : List ℕ) → all isScalar t ≡ true → length (encodeAll t) ≡ bytes t
+unfolding encodeAll bytes all
+encode-bytes [] h = refl
+encode-bytes (c ∷ t) h =
+    let e = both (isScalar c) (all isScalar t) h in
+    rw (length-append (encode c) (encodeAll t)) (omega (arith, encode-long c (omega (arith, scalar c (e .0) .top)), encode-bytes t (e .1)))
+
+pub read-all : (l : List ℕ) → all isScalar l ≡ true → chars (encodeAll l) ≡ l
+read-all l h = ap chars (sym (append-nil (encodeAll l))) ∙ read-back l [] h ∙ ap (λ (y : List ℕ). l ++ y) chars-nil ∙ append-nil l
+
+-- ---- tokens with their bytes
+unfoldable pub written : List Item → List Item
+written [] = []
+written (i ∷ is) = (i .0, encodeAll (i .1)) ∷ written is
+
+counted-written : (i : List Item) → counted (written i) ≡ written (counted i)
+unfolding counted written
+counted-written [] = refl
+counted-written (x ∷ i) = let ih = counted-written i in by-test (isCounted (x .0 .kind)) (λ h. rw (h, ih)) (λ h. rw (h, ih))
+
+module _ (u : Letters) (profile : ℕ) where
+  cuts-bytes : {i : List Item} {l z : List ℕ} → Cuts u profile i l z → all isScalar l ≡ true → withBytes (toks i) (encodeAll l) ≡ written i
+  unfolding withBytes written
+  cuts-bytes none a = refl
+  cuts-bytes (more {i = i} {k = k} {c = c} {e = e} {r = r} h x rest) a =
+      let b = all-append isScalar (c ∷ e) r (ap (all isScalar) (sym h) ∙ a) in
+      let n : length (encodeAll (c ∷ e)) ≡ k .len = encode-bytes (c ∷ e) (b .0) ∙ sym (cut-length u profile c e r k x) in
+      rw (h, encode-append (c ∷ e) r, take-at (encodeAll (c ∷ e)) (encodeAll r) (k .len) n, drop-at (encodeAll (c ∷ e)) (encodeAll r) (k .len) n, cuts-bytes rest (b .1))
+
+pub counted-of : (profile : ℕ) {i : List Item} {l : List ℕ} → Cuts unicode profile i l [] → all isScalar l ≡ true → countedOf profile (encodeAll l) ≡ written (counted i)
+unfolding countedOf tokensOf
+counted-of profile {i} {l} c h =
+    let t : tokens unicode profile (chars (encodeAll l)) ≡ toks i =
+    ap (tokens unicode profile) (read-all l h) ∙ cuts-tokens unicode profile c ∙ ap (λ (y : List Tok). toks i ++ y) (tokens-nil unicode profile) ∙ append-nil (toks i) in
+    rw (t, cuts-bytes unicode profile c h) (counted-written i)
