@@ -44,7 +44,7 @@ same-front (c ∷ x) (d ∷ y) r s e n =
     (rw (h, i .0), i .1)
 
 -- the characters of a text that is well-formed up to s
-read-front : (a s : List ℕ) (e : Encoded a) → chars (a ++ s) ≡ e .of ++ chars s
+pub read-front : (a s : List ℕ) (e : Encoded a) → chars (a ++ s) ≡ e .of ++ chars s
 read-front a s e = ap (λ (z : List ℕ). chars (z ++ s)) (e .same) ∙ read-back (e .of) s (e .scalars)
 
 module _ (profile : ℕ) where

@@ -13,9 +13,9 @@ use Rattle.locality.specs.Phases.{act, first, Usual}
 use Rattle.locality.specs.Counted.{Item, counted}
 use Rattle.locality.proofs.Phases.{piece-run, two, ends}
 use Rattle.locality.proofs.Swap.{Swap, Always, swap-front, run-swap}
-use Rattle.locality.proofs.Newline.{NoUnit, newline-swap, Ended, end-swap}
+use Rattle.locality.proofs.Newline.{NoUnit, lf-blank, lf-stops, blank-swap, Ended, end-swap}
 use Rattle.locality.proofs.Cuts.{texts, Cuts, none, more, begins, whole, Over, one-more}
-use Rattle.locality.proofs.White.{white-none, lf-white, white-end, all-white, white-uncounted, piece-white, spaces, kind-white}
+use Rattle.locality.proofs.White.{white-none, lf-white, white-join, white-more, all-white, white-uncounted, piece-white, spaces, kind-white}
 
 module _ (u : Letters) (usual : Usual u) (profile : ℕ) where
   -- the same token before both
@@ -74,7 +74,7 @@ module _ (u : Letters) (usual : Usual u) (profile : ℕ) where
     white c e k z h =
         let b = kind-white u profile c (e ++ r) r k z h in
         let v = all-white e r (ap (λ (w : Tok × List ℕ). w .1) (sym (piece-white u profile c (e ++ r) b) ∙ z)) in
-        subst (λ (m : List ℕ). Over u profile j [] (c ∷ m)) (append-assoc e (0x0A ∷ []) s) (spaces u profile c (e ++ 0x0A ∷ []) b (white-end v) behind)
+        subst (λ (m : List ℕ). Over u profile j [] (c ∷ m)) (append-assoc e (0x0A ∷ []) s) (spaces u profile c (e ++ 0x0A ∷ []) b (white-join v (white-more lf-white white-none)) behind)
 
     -- behind any token that a newline ends too
     pub newline-last : {ok : ℕ → Type 0} → Swap (act u) ok r (0x0A ∷ s) → (k : Tok) (c : ℕ) (e : List ℕ) → ((k .kind ≡ whitespaceKind → ⊥) → ok (k .kind)) → piece u profile c (e ++ r) ≡ (k, r) →
@@ -90,8 +90,8 @@ module _ (u : Letters) (usual : Usual u) (profile : ℕ) where
   -- where x begins a run of tokens and s stands behind it
   pub newline : {i j : List Item} {l : List ℕ} (x : ℕ) (t s : List ℕ) → NoUnit x → Cuts u profile j s [] → Cuts u profile i l (x ∷ t) → Over u profile j i (texts i ++ 0x0A ∷ s)
   newline {i} x t s unit behind h =
-      let w = newline-swap u usual x t s unit in
-      over-swap w (over-newline (x ∷ t) s behind) (λ k c e f z. newline-last (x ∷ t) s behind w k c e (λ o. o) z) h (any-last i)
+      let w = blank-swap u usual x 0x0A (lf-blank u usual) t s unit in
+      over-swap w (over-newline (x ∷ t) s behind) (λ k c e f z. newline-last (x ∷ t) s behind w k c e lf-stops z) h (any-last i)
 
   -- where the text ends behind a token that a newline does not change, or behind white space
   abbrev pub Closes : Tok → Type 0

@@ -1,12 +1,12 @@
 -- THE NEWLINE CLAUSE, on characters and on bytes.
 -- Assumes nothing.
-use Prim.Native.Nat.{ℕ, _+_, _≤_}
+use Prim.Native.Nat.{ℕ, _+_, _≤_, _<_}
 use native.Mathlib.Omega.{arith}
 use mathlib.Core.Path.{_≡_, refl, ap, ap₂, sym, _∙_}
 use mathlib.Core.Bool.{true, false, not, false≢true}
 use mathlib.Core.List.{List, [], _∷_, _++_, append-assoc}
 use lib.Dec.{eqb}
-use lib.ListN.{length, take, drop, length-append}
+use lib.ListN.{length, take, drop, length-append, length-take, length-drop}
 use lib.Seq.{take-at, drop-at}
 use borrow.Author.Tests.{eqb-true, not-true}
 use Rattle.lists.specs.All.{all}
@@ -20,7 +20,8 @@ use Rattle.lexer.specs.Chars.{isWhitespace, whitespace}
 use Rattle.lexer.specs.Cut.{Letters, Tok, advance, piece, tokens}
 use Rattle.lexer.specs.Unicode.{unicode}
 use Rattle.lexer.specs.Outcome.{tokensOf}
-use Rattle.tokens.specs.Tiling.{total}
+use Rattle.tokens.specs.Tiling.{Each, total, Formed}
+use Rattle.tokens.proofs.Tiling.{tiles}
 use Rattle.locality.specs.Phases.{Usual}
 use Rattle.locality.specs.Counted.{Item, isCounted, counted, noneCount, countedOf, Run, withNewline}
 use Rattle.locality.proofs.Phases.{ends}
@@ -34,7 +35,7 @@ use Rattle.locality.proofs.Written.{encode-append, all-append, all-join
 -- ---- the letters of Unicode are usual
 pub unicode-usual : Usual unicode
 unfolding unicode xidStart xidContinue inTable all
-unicode-usual = record { word = refl; no-start = refl; no-nul = refl; no-more = refl }
+unicode-usual = record { word = refl; no-start = refl; no-more = refl; cr-start = refl; cr-more = refl; no-nul = refl }
 
 -- ---- a slash and white space are no letters of a unit
 slash-unit : (x : ℕ) → eqb x 0x2F ≡ true → NoUnit x
@@ -135,3 +136,28 @@ module _ (profile : ℕ) where
       let x : from ≡ total (toks (a .items)) = omega (arith, r .starts, ap total (a .same)) in
       let y : to ≡ total (toks (a .items)) + total (toks (b .items)) = omega (arith, r .ends, ap total (a .same), ap total (b .same)) in
       rw (e .same) (clause-bytes from to (a .cuts) (b .cuts) n h (e .scalars) x y)
+
+-- ---- and it is no longer than the old one
+total-join : (a b : List Tok) → total (a ++ b) ≡ total a + total b
+total-join [] b = omega arith
+total-join (t ∷ a) b = omega (arith, total-join a b)
+
+each-behind : (a b : List Tok) → Each Formed (a ++ b) → Each Formed b
+each-behind [] b e = e
+each-behind (t ∷ a) b e = each-behind a b (e .1)
+
+total-some : (a b : List Tok) → Each Formed (a ++ b) → 1 ≤ length a → 1 ≤ total a
+total-some [] b e n = absurd (omega arith)
+total-some (t ∷ a) b e n = omega (arith, e .0 .some)
+
+pub run-places : (profile : ℕ) {s : List ℕ} {from to : ℕ} → Run profile s from to → (from < to) × (to ≤ length s)
+run-places profile {s} {from} {to} r =
+    let t = rw (r .is) at (tiles profile s) in
+    let n = total-some (r .run) (r .behind) (each-behind (r .before) (r .run ++ r .behind) (t .each)) (r .some) in
+    (omega (arith, r .starts, r .ends), omega (arith, r .ends, t .all, total-join (r .before) (r .run ++ r .behind), total-join (r .run) (r .behind)))
+
+pub newline-shorter : (profile : ℕ) {s : List ℕ} {from to : ℕ} → Run profile s from to → length (withNewline s from to) ≤ length s
+unfolding withNewline
+newline-shorter profile {s} {from} {to} r =
+    let p = run-places profile r in
+    omega (arith, p .0, p .1, length-append (take from s) (0x0A ∷ drop to s), length-take from s, length-drop to s)

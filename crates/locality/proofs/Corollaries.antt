@@ -1,10 +1,11 @@
--- What follows on bytes: two texts that differ in what does not count; a newline at the end; what may be put in.
+-- What else leaves the counted tokens of a text of bytes as they are: one run of uncounted tokens for another; a newline at the end;
+-- white space and comments put in; CR LF for LF.
 -- Assumes nothing.
-use Prim.Native.Nat.{ℕ, _+_}
+use Prim.Native.Nat.{ℕ, _+_, _≤_, _<_}
 use native.Mathlib.Omega.{arith}
-use mathlib.Core.Path.{_≡_, refl, ap, ap₂, sym, _∙_}
+use mathlib.Core.Path.{_≡_, refl, ap, ap₂, sym, subst, _∙_}
 use mathlib.Core.Bool.{true, false, _||_, false≢true}
-use mathlib.Core.List.{List, [], _∷_, _++_, append-assoc, append-nil}
+use mathlib.Core.List.{List, [], _∷_, _++_, append-assoc, append-nil, tail}
 use mathlib.Core.Logic.{inl, inr}
 use lib.Dec.{eqb}
 use lib.ListN.{length, take, drop}
@@ -12,10 +13,11 @@ use lib.Seq.{take-at, drop-at}
 use borrow.Author.Tests.{eqb-true}
 use Rattle.lists.specs.All.{all}
 use Rattle.lists.proofs.Bools.{by-test, both}
-use Rattle.unicode.specs.Utf8.{chars, isScalar, encode, encodeAll, WellFormed}
+use Rattle.unicode.specs.Utf8.{chars, width, isScalar, encode, encodeAll, WellFormed}
 use Rattle.unicode.specs.Text.{bytes}
 use Rattle.unicode.proofs.Text.{bytes-append}
-use Rattle.unicode.proofs.Valid.{encoded-well-formed, well-formed-encoded}
+use Rattle.unicode.proofs.Valid.{width-some, encoded-well-formed, well-formed-encoded}
+use Rattle.unicode.proofs.Ascii.{chars-ascii}
 use Rattle.lexer.specs.Chars.{isWhitespace}
 use Rattle.lexer.specs.Kinds.{blockComment, whitespaceKind}
 use Rattle.lexer.specs.Cut.{Tok, piece, tokens}
@@ -23,13 +25,14 @@ use Rattle.lexer.specs.Unicode.{unicode}
 use Rattle.lexer.specs.Outcome.{tokensOf}
 use Rattle.tokens.specs.Tiling.{total}
 use Rattle.locality.specs.Phases.{Seen, bits, broken, other, seenKind}
-use Rattle.locality.specs.Counted.{Item, isCounted, counted, noneCount, lastIs, isLine, isOpen, countedOf, Run, withNewline, EndsAt, inserted}
+use Rattle.locality.specs.Counted.{Item, isCounted, counted, noneCount, lastIs, isLine, isOpen, isKept, LfIn, countedOf, Run, withNewline, EndsAt, inserted}
 use Rattle.locality.proofs.Cuts.{texts, toks, counted-join, Cuts, more, cuts-text, cuts-join, first-cut, split, whole, cut-length, total-bytes, Over}
-use Rattle.locality.proofs.White.{White, white-none, white-more}
+use Rattle.locality.proofs.White.{white-uncounted, White, white-none, white-more, all-white, piece-white, kind-white}
 use Rattle.locality.proofs.Between.{Lasts, Closes, newline-end}
 use Rattle.locality.proofs.Written.{encode-append, all-append, all-join, encode-bytes, read-all, written, counted-of}
 use Rattle.locality.proofs.Clause.{unicode-usual, newline-clause}
-use Rattle.locality.proofs.Insert.{Free, free-uncounted, insert-chars, insert-white}
+use Rattle.locality.proofs.Ahead.{read-front}
+use Rattle.locality.proofs.Insert.{Free, free-uncounted, insert-chars, insert-white, Fine, crlf-first, crlf-later}
 
 module _ (profile : ℕ) where
   -- ---- ONE RUN FOR ANOTHER: two texts that are the same before and behind a run of uncounted tokens each have the same counted tokens
@@ -161,3 +164,122 @@ module _ (profile : ℕ) where
       rw (e .same)
       (insert-at (e .of) f p (free-uncounted z) (e .scalars)
       (λ i j l r c d a x b. insert-chars unicode unicode-usual profile c d t a x z b (w .cuts) (ap noneCount (sym y) ∙ m) (ap (lastIs isLine) (sym y) ∙ h)))
+
+-- ---- CR LF FOR LF
+-- of two fronts of a list the one that takes no fewer bytes begins with the other
+record Longer (x y r s : List ℕ) : Type 0 where
+  between : List ℕ
+  whole : y ≡ x ++ between
+  left : r ≡ between ++ s
+
+longer : (x y r s : List ℕ) → x ++ r ≡ y ++ s → bytes x ≤ bytes y → Longer x y r s
+unfolding bytes
+longer [] y r s e n = record { between = y; whole = refl; left = e }
+longer (c ∷ x) [] r s e n = absurd (omega (arith, width-some c))
+longer (c ∷ x) (d ∷ y) r s e n =
+    let h : c ≡ d = cc in
+    let t : x ++ r ≡ y ++ s = cc in
+    let i = longer x y r s t (omega (arith, ap width h)) in
+    record { between = i .between; whole = ap₂ (λ (v : ℕ) (w : List ℕ). v ∷ w) (sym h) (i .whole); left = i .left }
+
+append-cancel : (a x y : List ℕ) → a ++ x ≡ a ++ y → x ≡ y
+append-cancel [] x y h = h
+append-cancel (c ∷ a) x y h = append-cancel a x y (cc)
+
+module _ (profile : ℕ) where
+  last-fine : {j : List Item} (y z : List ℕ) (w : White y) (b : Cut profile j z []) (i : List Item) → lastIs isKept (toks i) ≡ false → Lasts unicode unicode-usual profile (Fine unicode unicode-usual profile y z w b) i
+  unfolding lastIs
+  last-fine y z w b [] h = tt
+  last-fine y z w b (x ∷ []) h = h
+  last-fine y z w b (x ∷ v ∷ i) h = last-fine y z w b (v ∷ i) h
+
+  white-split : (x y : List ℕ) → White (x ++ y) → White x × White y
+  white-split [] y w = (white-none, w)
+  white-split (c ∷ x) y (white-more h w) = let i = white-split x y w in (white-more h (i .0), i .1)
+
+  white-head : {c : ℕ} {x : List ℕ} → White (c ∷ x) → (isWhitespace c ≡ true) × White x
+  white-head (white-more h w) = (h, w)
+
+  token-white : (c : ℕ) (e r : List ℕ) (k : Tok) → piece unicode profile c (e ++ r) ≡ (k, r) → k .kind ≡ whitespaceKind → White (c ∷ e)
+  token-white c e r k h w =
+      let b = kind-white unicode profile c (e ++ r) r k h w in
+      white-more b (all-white e r (ap (λ (y : Tok × List ℕ). y .1) (sym (piece-white unicode profile c (e ++ r) b) ∙ h)))
+
+  -- in a token of white space: x before the LF, y behind it
+  crlf-chars : {i j : List Item} {l r : List ℕ} (c : ℕ) (e x y : List ℕ) (k : Tok) → Cut profile i l (c ∷ (e ++ r)) → piece unicode profile c (e ++ r) ≡ (k, r) → k .kind ≡ whitespaceKind → Cut profile j r [] →
+      c ∷ e ≡ x ++ 0x0A ∷ y → (x ≡ [] → lastIs isKept (toks i) ≡ false) → Over unicode profile j i (texts i ++ (x ++ 0x0D ∷ 0x0A ∷ (y ++ r)))
+  crlf-chars {i} {j} {l} {r} c e [] y k a h w b q f =
+      let v = white-split (0x0A ∷ []) y (subst White q (token-white c e r k h w)) in
+      crlf-first unicode unicode-usual profile y r (v .1) b (subst (λ (z : List ℕ). Cut profile i l (z ++ r)) q a) (last-fine y r (v .1) b i (f refl))
+  crlf-chars {i} {j} {l} {r} c e (d ∷ x) y k a h w b q f =
+      let v = white-split (d ∷ x) (0x0A ∷ y) (subst White q (token-white c e r k h w)) in
+      let n = white-head (v .0) in
+      let o = white-split (0x0A ∷ []) y (v .1) in
+      let m : d ∷ (x ++ 0x0A ∷ y) ++ r ≡ d ∷ (x ++ 0x0A ∷ (y ++ r)) = ap (λ (z : List ℕ). d ∷ z) (append-assoc x (0x0A ∷ y) r) in
+      crlf-later unicode unicode-usual profile y r (o .1) b d x (n .0) (n .1) (subst (λ (z : List ℕ). Cut profile i l z) m (subst (λ (z : List ℕ). Cut profile i l (z ++ r)) q a))
+
+  -- where the LF stands in a token
+  record Within (c : ℕ) (e r A B : List ℕ) (i : List Item) : Type 0 where
+    before : List ℕ
+    after : List ℕ
+    token : c ∷ e ≡ before ++ 0x0A ∷ after
+    front : A ≡ texts i ++ before
+    back : B ≡ after ++ r
+
+  within : (c : ℕ) (e r A B : List ℕ) (i : List Item) → A ++ 0x0A ∷ B ≡ texts i ++ (c ∷ (e ++ r)) → bytes (texts i) ≤ bytes A → bytes A < bytes (texts i) + bytes (c ∷ e) → Within c e r A B i
+  within c e r A B i t m n =
+      let x = longer (texts i) A (c ∷ (e ++ r)) (0x0A ∷ B) (sym t) m in
+      let k : bytes A ≡ bytes (texts i) + bytes (x .between) = ap bytes (x .whole) ∙ bytes-append (texts i) (x .between) in
+      let w = longer (x .between) (c ∷ e) (0x0A ∷ B) r (sym (x .left)) (omega arith) in
+      go (x .between) (x .whole) k (w .between) (w .whole) (w .left)
+    where
+      go : (x : List ℕ) → A ≡ texts i ++ x → bytes A ≡ bytes (texts i) + bytes x → (w : List ℕ) → c ∷ e ≡ x ++ w → 0x0A ∷ B ≡ w ++ r → Within c e r A B i
+      go x a k [] q l = absurd (omega (arith, ap bytes q, ap bytes (append-nil x)))
+      go x a k (d ∷ y) q l =
+          let h : 0x0A ≡ d = cc in
+          record { before = x; after = y; token = q ∙ ap (λ (z : ℕ). x ++ z ∷ y) (sym h); front = a; back = cc }
+
+  crlf-cut : {i j : List Item} {l r : List ℕ} (c : ℕ) (e : List ℕ) (k : Tok) (A B : List ℕ) → Cut profile i l (c ∷ (e ++ r)) → piece unicode profile c (e ++ r) ≡ (k, r) → k .kind ≡ whitespaceKind → Cut profile j r [] →
+      l ≡ A ++ 0x0A ∷ B → total (toks i) ≤ bytes A → bytes A < total (toks i) + k .len → (total (toks i) ≡ bytes A → lastIs isKept (toks i) ≡ false) → Over unicode profile j i (A ++ 0x0D ∷ 0x0A ∷ B)
+  crlf-cut {i} {j} {l} {r} c e k A B a h w b q m n f =
+      let t = total-bytes unicode profile a in
+      let v = within c e r A B i (sym q ∙ cuts-text unicode profile a) (omega arith) (omega (arith, cut-length unicode profile c e r k h)) in
+      let x : texts i ++ (v .before ++ 0x0D ∷ 0x0A ∷ (v .after ++ r)) ≡ A ++ 0x0D ∷ 0x0A ∷ B =
+      sym (append-assoc (texts i) (v .before) (0x0D ∷ 0x0A ∷ (v .after ++ r))) ∙ ap₂ (λ (y z : List ℕ). y ++ 0x0D ∷ 0x0A ∷ z) (sym (v .front)) (sym (v .back)) in
+      let g : v .before ≡ [] → lastIs isKept (toks i) ≡ false = λ z. f (t ∙ ap bytes (sym (v .front ∙ ap (λ (y : List ℕ). texts i ++ y) z ∙ append-nil (texts i)))) in
+      subst (λ (y : List ℕ). Over unicode profile j i y) x (crlf-chars c e (v .before) (v .after) k a h w b (v .token) g)
+
+  crlf-bytes : (A B : List ℕ) (k : Tok) (p q : List Tok) → all isScalar (A ++ 0x0A ∷ B) ≡ true → tokens unicode profile (A ++ 0x0A ∷ B) ≡ p ++ (k ∷ q) → k .kind ≡ whitespaceKind →
+      total p ≤ bytes A → bytes A < total p + k .len → (total p ≡ bytes A → lastIs isKept p ≡ false) →
+      WellFormed (encodeAll (A ++ 0x0D ∷ 0x0A ∷ B)) × (countedOf profile (encodeAll (A ++ 0x0D ∷ 0x0A ∷ B)) ≡ countedOf profile (encodeAll (A ++ 0x0A ∷ B)))
+  unfolding all isScalar
+  crlf-bytes A B k p q v h w m n f =
+      let a = split unicode profile p (k ∷ q) (A ++ 0x0A ∷ B) h in
+      let b = first-cut unicode profile k q (a .left) (a .rest) in
+      let j = whole unicode profile (b .left) in
+      let c : Cut profile (a .items) (A ++ 0x0A ∷ B) (b .head ∷ (b .text ++ b .left)) = rw (b .is) at (a .cuts) in
+      let e = ap total (a .same) in
+      let o = crlf-cut (b .head) (b .text) k A B c (b .cut) w (j .cuts) refl (omega arith) (omega arith) (λ z. ap (lastIs isKept) (a .same) ∙ f (sym e ∙ z)) in
+      let d : Cut profile (a .items ++ (k, b .head ∷ b .text) ∷ j .items) (A ++ 0x0A ∷ B) [] = cuts-join unicode profile c (more refl (b .cut) (j .cuts)) in
+      let s : counted (o .new) ≡ counted (a .items ++ (k, b .head ∷ b .text) ∷ j .items) = o .same ∙ sym (counted-join (a .items) ((k, b .head ∷ b .text) ∷ j .items) ∙ ap (λ (y : List Item). counted (a .items) ++ y) (white-uncounted (j .items) k (b .head ∷ b .text) w)) in
+      let g = all-append isScalar A (0x0A ∷ B) v in
+      let u : all isScalar (A ++ 0x0D ∷ 0x0A ∷ B) ≡ true = all-join isScalar A (0x0D ∷ 0x0A ∷ B) (g .0) (g .1) in
+      (encoded-well-formed (A ++ 0x0D ∷ 0x0A ∷ B) u, same-bytes profile d (o .cuts) v u s)
+
+  -- a CR put before an LF in white space that ends no Pragma and no Annotation
+  pub crlf : (a b : List ℕ) → WellFormed a → WellFormed (a ++ 0x0A ∷ b) → LfIn profile a b → WellFormed (a ++ 0x0D ∷ 0x0A ∷ b) × (countedOf profile (a ++ 0x0D ∷ 0x0A ∷ b) ≡ countedOf profile (a ++ 0x0A ∷ b))
+  unfolding tokensOf encodeAll encode
+  crlf a b f g p =
+      let A = well-formed-encoded a f in
+      let L = well-formed-encoded (a ++ 0x0A ∷ b) g in
+      let B : List ℕ = chars b in
+      let n : bytes (A .of) ≡ length a = sym (ap length (A .same) ∙ encode-bytes (A .of) (A .scalars)) in
+      let v : chars (a ++ 0x0A ∷ b) ≡ A .of ++ 0x0A ∷ B = read-front a (0x0A ∷ b) A ∙ ap (λ (z : List ℕ). A .of ++ z) (chars-ascii 0x0A b (omega arith)) in
+      let l : L .of ≡ A .of ++ 0x0A ∷ B = sym (ap chars (L .same) ∙ read-all (L .of) (L .scalars)) ∙ v in
+      let w : a ++ 0x0A ∷ b ≡ encodeAll (A .of) ++ 0x0A ∷ encodeAll B = L .same ∙ ap encodeAll l ∙ encode-append (A .of) (0x0A ∷ B) in
+      let c : encodeAll B ≡ b = ap tail (append-cancel a (0x0A ∷ encodeAll B) (0x0A ∷ b) (ap (λ (z : List ℕ). z ++ 0x0A ∷ encodeAll B) (A .same) ∙ sym w)) in
+      let x : encodeAll (A .of ++ 0x0A ∷ B) ≡ a ++ 0x0A ∷ b = encode-append (A .of) (0x0A ∷ B) ∙ ap₂ (λ (y z : List ℕ). y ++ 0x0A ∷ z) (sym (A .same)) c in
+      let y : encodeAll (A .of ++ 0x0D ∷ 0x0A ∷ B) ≡ a ++ 0x0D ∷ 0x0A ∷ b = encode-append (A .of) (0x0D ∷ 0x0A ∷ B) ∙ ap₂ (λ (y z : List ℕ). y ++ 0x0D ∷ 0x0A ∷ z) (sym (A .same)) c in
+      let r = crlf-bytes (A .of) B (p .token) (p .before) (p .behind) (ap (all isScalar) (sym l) ∙ L .scalars) (ap (tokens unicode profile) (sym v) ∙ p .is) (p .white)
+      (omega (arith, p .starts)) (omega (arith, p .ends)) (λ z. p .free (z ∙ n)) in
+      (rw y at (r .0), rw (x, y) at (r .1))

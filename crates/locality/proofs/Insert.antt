@@ -1,4 +1,4 @@
--- On characters: what may be put into a text, or stand at its end, without a change of the counted tokens.
+-- On characters: what may be put into a text without a change of the counted tokens.
 -- Assumes nothing.
 use Prim.Native.Nat.{ℕ, suc, _+_, _-_, _≤_}
 use native.Mathlib.Omega.{arith}
@@ -18,13 +18,14 @@ use Rattle.unicode.proofs.Text.{skip-more, skip-stop}
 use Rattle.lexer.specs.Chars.{isWhitespace, whitespace}
 use Rattle.lexer.specs.Kinds.{lineComment, blockComment, unclosedComment, whitespaceKind}
 use Rattle.lexer.specs.Cut.{Letters, Tok, Token, peek, notLf, opens, closes, block, slash, isUnit, advance, piece}
-use Rattle.locality.specs.Phases.{Usual}
-use Rattle.locality.specs.Counted.{Item, isCounted, counted, noneCount, lastIs, isLine}
-use Rattle.locality.proofs.Newline.{swap-one}
+use Rattle.locality.specs.Phases.{Line, ofComment, ofPragma, ofAnnotation, lineKind, act, Usual}
+use Rattle.locality.specs.Counted.{Item, isCounted, counted, noneCount, lastIs, isLine, isKept}
+use Rattle.locality.proofs.Swap.{Swap}
+use Rattle.locality.proofs.Newline.{swap-one, cr-blank, lf-blank, Stops, blank-swap}
 use Rattle.locality.proofs.Counted.{others-count}
-use Rattle.locality.proofs.Cuts.{texts, toks, counted-join, Cuts, none, more, cuts-join, Over, over-self, over-first}
-use Rattle.locality.proofs.White.{White, white-none, white-more, white-isnt, all-white, piece-white, spaces, kind-white, over-white}
-use Rattle.locality.proofs.Between.{cuts-swap}
+use Rattle.locality.proofs.Cuts.{texts, toks, counted-join, Cuts, none, more, cuts-join, Over, one-more, over-self, over-first}
+use Rattle.locality.proofs.White.{White, white-none, white-more, lf-white, cr-white, white-join, white-isnt, all-white, piece-white, spaces, kind-white, over-white}
+use Rattle.locality.proofs.Between.{piece-swap, cuts-swap, Lasts, over-swap}
 
 -- ---- a closed block comment is closed whatever stands behind it
 -- it takes two characters at least
@@ -97,11 +98,11 @@ slash-ahead (x ∷ e) r s h =
     rw (c .no-line, c .star, block-ahead e r s 1 (c .block-is))
 
 -- ---- a line comment ends before an LF, or at the end
-record Line (t r : List ℕ) : Type 0 where
+record Lined (t r : List ℕ) : Type 0 where
   twin : eqb (peek t) 0x2F ≡ true
   rest-is : skip notLf (tail t) ≡ r
 
-slash-line : (t r : List ℕ) → slash t ≡ (lineComment, r) → Line t r
+slash-line : (t r : List ℕ) → slash t ≡ (lineComment, r) → Lined t r
 unfolding slash
 slash-line t r h =
     by-test (eqb (peek t) 0x2F) (λ a. record { twin = a; rest-is = ap (λ (y : ℕ × List ℕ). y .1) (rw a at h) })
@@ -155,6 +156,10 @@ pub free-uncounted : {k : ℕ} → Free k → isCounted k ≡ false
 unfolding isCounted
 free-uncounted (inl w) = rw w
 free-uncounted (inr w) = rw w
+
+line-uncounted : {k : ℕ} → k ≡ lineComment → isCounted k ≡ false
+unfolding isCounted
+line-uncounted w = rw w
 
 pub three : (k : ℕ) → isCounted k ≡ false → (k ≡ lineComment) ⊎ Free k
 unfolding isCounted
@@ -281,3 +286,60 @@ module _ (u : Letters) (usual : Usual u) (profile : ℕ) where
         | inl z ↦ over-line c e r (v ++ r) k x z (over-blank r w (line-rest c e r k x z) b)
         | inr z ↦ over-behind c e r (v ++ r) k x z (over-white u profile w b)
       ])
+
+  -- ---- a CR put before an LF in white space: y is the white space behind the LF
+  module _ {j : List Item} (y z : List ℕ) (blank : White y) (behind : Cuts u profile j z []) where
+    abbrev old : List ℕ
+    old = 0x0A ∷ (y ++ z)
+
+    abbrev new : List ℕ
+    new = 0x0D ∷ 0x0A ∷ (y ++ z)
+
+    over-lf : Over u profile j [] old
+    over-lf = spaces u profile 0x0A y lf-white blank behind
+
+    over-cr : Over u profile j [] new
+    over-cr = spaces u profile 0x0D (0x0A ∷ y) cr-white (white-more lf-white blank) behind
+
+    over-uncounted : {l : List ℕ} (k : Tok) (w : List ℕ) → isCounted (k .kind) ≡ false → Over u profile j [] l → Over u profile j ((k, w) ∷ []) l
+    unfolding counted
+    over-uncounted k w h o = record { new = o .new; cuts = o .cuts; same = rw h (o .same) }
+
+    -- the token before it is no Pragma and no Annotation
+    abbrev pub Fine : Tok → Type 0
+    Fine k = isKept (k .kind) ≡ false
+
+    lines : (k : Tok) → Fine k → eqb (k .kind) lineComment ≡ false → (l : Line) → lineKind l ≡ k .kind → ⊥
+    lines k f h ofComment e = eqb-false (k .kind) lineComment h (sym e)
+    lines k f h ofPragma e = false≢true (sym f ∙ ap isKept (sym e))
+    lines k f h ofAnnotation e = false≢true (sym f ∙ ap isKept (sym e))
+
+    skip-cr : skip notLf new ≡ old
+    unfolding notLf
+    skip-cr = skip-more notLf 0x0D old refl ∙ skip-stop notLf 0x0A (y ++ z) refl
+
+    abbrev swap : Swap (act u) (Stops 0x0D) old new
+    swap = blank-swap u usual 0x0A 0x0D (cr-blank u usual) (y ++ z) (0x0A ∷ (y ++ z)) (lf-blank u usual .second)
+
+    cr-alone : (k : Tok) (c : ℕ) (e : List ℕ) → Fine k → piece u profile c (e ++ old) ≡ (k, old) → Over u profile j ((k, c ∷ e) ∷ []) (c ∷ (e ++ new))
+    cr-alone k c e f h =
+        by-test (isCounted (k .kind))
+        (λ n.
+        let space : k .kind ≡ whitespaceKind → ⊥ = λ w. false≢true (sym (free-uncounted (inr w)) ∙ n) in
+        let line : eqb (k .kind) lineComment ≡ false = by-test (eqb (k .kind) lineComment) (λ w. absurd (false≢true (sym (line-uncounted (eqb-true (k .kind) lineComment w)) ∙ n))) (λ w. w) in
+        one-more u profile k c e refl (piece-swap u usual profile swap c e k (record { no-space = space; no-line = λ n. lines k f line }) h) over-cr)
+        (λ n.
+        over-uncounted k (c ∷ e) n
+        (elim (three (k .kind) n) [
+          | inl w ↦ over-line c e old new k h w (subst (λ (l : List ℕ). Over u profile j [] l) (sym skip-cr) over-lf)
+          | inr w ↦ over-behind c e old new k h w over-cr
+        ]))
+
+    pub crlf-first : {i : List Item} {l : List ℕ} → Cuts u profile i l old → Lasts u usual profile Fine i → Over u profile j i (texts i ++ new)
+    crlf-first h f = over-swap u usual profile swap over-cr cr-alone h f
+
+    -- behind white space of the same token
+    pub crlf-later : {i : List Item} {l : List ℕ} (c : ℕ) (x : List ℕ) → isWhitespace c ≡ true → White x → Cuts u profile i l (c ∷ (x ++ old)) → Over u profile j i (texts i ++ c ∷ (x ++ new))
+    crlf-later c x a b h =
+        over-front c (λ v. white-no-unit c v a) h
+        (subst (λ (l : List ℕ). Over u profile j [] (c ∷ l)) (append-assoc x (0x0D ∷ 0x0A ∷ y) z) (spaces u profile c (x ++ 0x0D ∷ 0x0A ∷ y) a (white-join b (white-more cr-white (white-more lf-white blank))) behind))

@@ -13,3 +13,4 @@ pub mod Ahead
 pub mod Insert
 pub mod Corollaries
 pub mod Feed
+pub mod Samples

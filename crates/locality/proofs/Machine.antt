@@ -1,5 +1,4 @@
--- The laws of `specs/Machine.antt`, for every machine: its steps; the same by what is left, with no counting; and what may be put in
--- place of what follows a token.
+-- The laws of `specs/Machine.antt`, for every machine: its steps, and the same by what is left of the text, with no counting.
 -- Assumes nothing.
 use Prim.Native.Nat.{ℕ, _+_, _-_, _≤_}
 use native.Mathlib.Omega.{arith}

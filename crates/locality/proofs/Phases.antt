@@ -21,7 +21,7 @@ use Rattle.lexer.specs.Kinds.{lineComment, blockComment, unclosedComment, white
 use Rattle.lexer.specs.Cut.{Letters, Token, Tok, peek, notLf, isDigit, isE, orUnderscore, met, opens, closes, block, slash, digits, exponent, exponentOf, point, fraction, based, number, isUnit, escapes, quoted, quoteKind, isBit, withoutLf, twice, pragmaWord, agree, pound, Quote, wideEmoji, goesOn, name, word, annotated, hardware, identifier, suffix, advance, piece, tokens}
 use Rattle.locality.specs.Machine.{Act, eats, halts, run, LooksAtTwo, cutBy}
 use Rattle.locality.specs.Phases as Phases
-use Rattle.locality.specs.Phases.{Seen, bits, broken, other, seeing, seenKind, Phase, behindSlash, line, inside, into, closing, closed, space, emojiName, spelling, behindAt, behindDollar, wire, zeroFirst, figures, pointed, decimals, behindE, power, quote, quoteClosed, suffixed, single, nextIs, letter, figure, suffixActs, numberEnds, fractionActs, act, first, Usual}
+use Rattle.locality.specs.Phases.{Seen, bits, broken, other, seeing, seenKind, Line, ofComment, ofPragma, ofAnnotation, lineKind, Phase, behindSlash, line, inside, into, closing, closed, space, emojiName, spelling, behindAt, behindDollar, wire, zeroFirst, figures, pointed, decimals, behindE, power, quote, quoteClosed, suffixed, single, nextIs, letter, figure, suffixActs, numberEnds, fractionActs, act, first, Usual}
 use Rattle.locality.proofs.Machine.{walk, walk-eats, walk-halts, walk-same, walk-while, countedFrom, run-walk}
 
 -- where eating stops, no next character passes the test
@@ -52,7 +52,8 @@ letter-small (suc zero) = omega arith
 letter-small (suc (suc zero)) = omega arith
 letter-small (suc (suc (suc zero))) = omega arith
 letter-small (suc (suc (suc (suc zero)))) = omega arith
-letter-small (suc (suc (suc (suc (suc n))))) = omega arith
+letter-small (suc (suc (suc (suc (suc zero))))) = omega arith
+letter-small (suc (suc (suc (suc (suc (suc n)))))) = omega arith
 
 pub no-letter : (c n : ℕ) → c < 0x61 → eqb c (letter n) ≡ false
 no-letter c n h = ne-eqb c (letter n) (λ e. omega (arith, letter-small n))
@@ -146,9 +147,9 @@ module _ (u : Letters) where
       let a : act u q r ≡ halts false k = acts r ∙ rw (eat-rest p keep tt l) in
       walk-while (act u) (λ s. q) p keep (λ s c t h. acts (c ∷ t) ∙ rw h) tt m l ∙ walk-halts (act u) m r a
 
-  line-walk : (k : ℕ) (m l : List ℕ) → go (line k) m l ≡ tok m (k, skip notLf l)
+  line-walk : (k : Line) (m l : List ℕ) → go (line k) m l ≡ tok m (lineKind k, skip notLf l)
   unfolding act
-  line-walk k = walk-skip (line k) notLf k (λ l. refl)
+  line-walk k = walk-skip (line k) notLf (lineKind k) (λ l. refl)
 
   space-walk : (m l : List ℕ) → go space m l ≡ tok m (whitespaceKind, skip isWhitespace l)
   unfolding act
@@ -205,8 +206,8 @@ module _ (u : Letters) where
   slash-walk m (c ∷ t) =
       by-test (eqb c 0x2F)
       (λ h.
-      let a : act u behindSlash (c ∷ t) ≡ eats false (line lineComment) = rw h in
-      rw h (walk-eats (act u) m a ∙ line-walk lineComment m t))
+      let a : act u behindSlash (c ∷ t) ≡ eats false (line ofComment) = rw h in
+      rw h (walk-eats (act u) m a ∙ line-walk ofComment m t))
       (λ h. by-test (eqb c 0x2A)
       (λ k.
       let a : act u behindSlash (c ∷ t) ≡ eats false (inside 1) = rw (h, k) in
@@ -396,8 +397,8 @@ module _ (u : Letters) where
   at-walk m l =
       by-test (u .start (peek l))
       (λ h.
-      let a : act u behindAt l ≡ act u (line annotation) l = rw h in
-      rw h (walk-same (act u) m l a ∙ line-walk annotation m l))
+      let a : act u behindAt l ≡ act u (line ofAnnotation) l = rw h in
+      rw h (walk-same (act u) m l a ∙ line-walk ofAnnotation m l))
       (λ h.
       let a : act u behindAt l ≡ halts false atSign = rw h in
       rw h (walk-halts (act u) m l a))
@@ -502,7 +503,7 @@ module _ (u : Letters) where
       (λ h. rw h (ne-eqb (suc a) (suc b) (λ e. eqb-false a b h (omega arith))))
 
   spell : (bare : Bool) (n : ℕ) (w m : List ℕ) → notLf (letter n) ≡ true → (bare ≡ true → u .more (letter n) ≡ true) →
-      ((l : List ℕ) → go (cond (leb 5 n) (line pragma) (spelling bare (suc n))) m l ≡ tok m (spelled bare w l)) → (l : List ℕ) → go (spelling bare n) m l ≡ tok m (spelled bare (letter n ∷ w) l)
+      ((l : List ℕ) → go (cond (leb 5 n) (line ofPragma) (spelling bare (suc n))) m l ≡ tok m (spelled bare w l)) → (l : List ℕ) → go (spelling bare n) m l ≡ tok m (spelled bare (letter n ∷ w) l)
   unfolding agree act
   spell bare n w m f i next [] =
       let e : eqb 0 (suc (length w)) ≡ false = ne-eqb 0 (suc (length w)) (λ q. omega arith) in
@@ -510,7 +511,7 @@ module _ (u : Letters) where
   spell bare n w m f i next (c ∷ t) =
       by-test (eqb c (letter n))
       (λ h.
-      let a : act u (spelling bare n) (c ∷ t) ≡ eats false (cond (leb 5 n) (line pragma) (spelling bare (suc n))) = rw h in
+      let a : act u (spelling bare n) (c ∷ t) ≡ eats false (cond (leb 5 n) (line ofPragma) (spelling bare (suc n))) = rw h in
       let q : c ≡ letter n = eqb-true c (letter n) h in
       let g : skip notLf (c ∷ t) ≡ skip notLf t = skip-more notLf c t (ap notLf q ∙ f) in
       rw (h, eqb-suc (agree w t) (length w), g) (walk-eats (act u) m a ∙ next t ∙ ap (λ (x : ℕ × List ℕ). tok m (cond (eqb (agree w t) (length w)) (pragma, skip notLf t) x)) (named bare q i (agree w t))))
@@ -531,7 +532,7 @@ module _ (u : Letters) where
       (spell bare 2 (0x67 ∷ 0x6D ∷ 0x61 ∷ []) m refl (λ h. r h .1)
       (spell bare 3 (0x6D ∷ 0x61 ∷ []) m refl (λ h. r h .2)
       (spell bare 4 (0x61 ∷ []) m refl (λ h. r h .3)
-      (spell bare 5 [] m refl (λ h. r h .1) (line-walk pragma m)))))
+      (spell bare 5 [] m refl (λ h. r h .1) (line-walk ofPragma m)))))
     where
       letters : all (u .more) (tail pragmaWord) ≡ true → (u .more 0x72 ≡ true) × (u .more 0x61 ≡ true) × (u .more 0x67 ≡ true) × (u .more 0x6D ≡ true)
       letters e =

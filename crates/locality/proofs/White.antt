@@ -32,9 +32,13 @@ pub lf-white : isWhitespace 0x0A ≡ true
 unfolding whitespace inTable
 lf-white = refl
 
-pub white-end : {w : List ℕ} → White w → White (w ++ 0x0A ∷ [])
-white-end white-none = white-more lf-white white-none
-white-end (white-more h x) = white-more h (white-end x)
+pub cr-white : isWhitespace 0x0D ≡ true
+unfolding whitespace inTable
+cr-white = refl
+
+pub white-join : {v w : List ℕ} → White v → White w → White (v ++ w)
+white-join white-none y = y
+white-join (white-more h x) y = white-more h (white-join x y)
 
 skip-white : {w : List ℕ} (r : List ℕ) → White w → skip isWhitespace (w ++ r) ≡ skip isWhitespace r
 skip-white r white-none = refl

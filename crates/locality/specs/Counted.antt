@@ -1,13 +1,13 @@
 -- The tokens of a text with their bytes, and those of them that count; and a text with a newline in place of a part.
 -- Assumes nothing.
-use Prim.Native.Nat.{ℕ, _+_, _≤_}
+use Prim.Native.Nat.{ℕ, _+_, _≤_, _<_}
 use mathlib.Core.Path.{_≡_}
 use mathlib.Core.Bool.{Bool, true, false, not, cond, _||_}
 use mathlib.Core.List.{List, [], _∷_, _++_}
 use lib.Dec.{eqb}
 use lib.ListN.{length, take, drop}
 use Rattle.lists.specs.All.{all}
-use Rattle.lexer.specs.Kinds.{lineComment, blockComment, unclosedComment, whitespaceKind, str, bitStr}
+use Rattle.lexer.specs.Kinds.{lineComment, blockComment, unclosedComment, whitespaceKind, pragma, annotation, str, bitStr}
 use Rattle.lexer.specs.Cut.{Tok}
 use Rattle.lexer.specs.Outcome.{tokensOf}
 use Rattle.tokens.specs.Tiling.{total}
@@ -37,6 +37,10 @@ isLine k = eqb k lineComment
 -- an unclosed comment or an unclosed quoted text, which does so too
 abbrev pub isOpen : ℕ → Bool
 isOpen k = eqb k unclosedComment || (eqb k (str false) || (eqb k (bitStr false false) || eqb k (bitStr false true)))
+
+-- a line that counts, with what is put at its end
+abbrev pub isKept : ℕ → Bool
+isKept k = eqb k pragma || eqb k annotation
 
 -- no token counts
 abbrev pub noneCount : List Tok → Bool
@@ -76,3 +80,14 @@ pub record EndsAt (profile : ℕ) (s : List ℕ) (at : ℕ) (t : Tok) : Type 0 w
 -- bytes v put in at a place
 unfoldable pub inserted : List ℕ → ℕ → List ℕ → List ℕ
 inserted s at v = take at s ++ (v ++ drop at s)
+
+-- the LF between the bytes a and b stands in white space, and does not end a Pragma or an Annotation
+pub record LfIn (profile : ℕ) (a b : List ℕ) : Type 0 where
+  pub before : List Tok
+  pub token : Tok
+  pub behind : List Tok
+  pub is : tokensOf profile (a ++ 0x0A ∷ b) ≡ before ++ (token ∷ behind)
+  pub white : token .kind ≡ whitespaceKind
+  pub starts : total before ≤ length a
+  pub ends : length a < total before + token .len
+  pub free : (total before ≡ length a → lastIs isKept before ≡ false)

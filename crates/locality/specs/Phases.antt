@@ -1,10 +1,11 @@
 -- The rules of `lexer/specs/Cut.antt` as a machine: which state it is in behind a first character, and what it does in each.
 -- Assumes nothing.
-use Prim.Native.Nat.{ℕ, zero, suc, _-_}
+use Prim.Native.Nat.{ℕ, suc, _-_}
 use mathlib.Core.Path.{_≡_}
 use mathlib.Core.Bool.{Bool, true, false, not, cond, _&&_, _||_}
 use mathlib.Core.List.{List, [], _∷_, tail}
 use lib.Dec.{eqb, leb}
+use lib.ListN.{getD}
 use Rattle.lists.specs.All.{all}
 use Rattle.lexer.specs.Chars.{isWhitespace}
 use Rattle.lexer.specs.Kinds.{lineComment, blockComment, unclosedComment, whitespaceKind, ident, hardwareIdent, invalidIdent, pragma, annotation, atSign, dollar, slashMark, unknown, marks, markIn, int, float, str, bitStr}
@@ -34,13 +35,22 @@ seenKind closed (bits two low) = bitStr closed two
 seenKind closed (broken two) = cond closed (str true) (bitStr false two)
 seenKind closed other = str closed
 
+-- ---- the tokens that go to the end of their line
+pub data Line : Type 0 where
+  ofComment ofPragma ofAnnotation : Line
+
+abbrev pub lineKind : Line → ℕ
+lineKind ofComment = lineComment
+lineKind ofPragma = pragma
+lineKind ofAnnotation = annotation
+
 -- ---- the states
 pub data Phase : Type 0 where
   -- behind a slash
   behindSlash : Phase
-  -- in a line of this kind, that ends before an LF
-  line : ℕ → Phase
-  -- in a block comment at this depth
+  -- in such a line, that ends before an LF
+  line : Line → Phase
+  -- in a block comment, at this depth
   inside : ℕ → Phase
   -- between two characters that open or close a comment, and bring it to this depth
   into : ℕ → Phase
@@ -63,7 +73,7 @@ pub data Phase : Type 0 where
   -- behind a point; in the digits behind it; behind an e; in the digits behind that, of which one was met
   pointed decimals behindE : ℕ → Phase
   power : ℕ → Bool → Phase
-  -- in a quoted text: behind a backslash that takes the next character along
+  -- in a quoted text, of which this has been seen; true: behind a backslash, which takes the next character along
   quote : Bool → Seen → Phase
   -- behind the closing quote; in the suffix of a literal of this kind
   quoteClosed suffixed : ℕ → Phase
@@ -77,19 +87,14 @@ nextIs p (c ∷ t) = p c
 
 -- the letter of `pragma` behind so many
 abbrev pub letter : ℕ → ℕ
-letter zero = 0x70
-letter (suc zero) = 0x72
-letter (suc (suc zero)) = 0x61
-letter (suc (suc (suc zero))) = 0x67
-letter (suc (suc (suc (suc zero)))) = 0x6D
-letter (suc (suc (suc (suc (suc n))))) = 0x61
+letter n = getD pragmaWord n 0x61
 
 -- the digits of a base
 abbrev pub figure : ℕ → ℕ → Bool
 figure base = cond (eqb base 3) isHexDigit isDigit
 
-abbrev pub lineActs : ℕ → List ℕ → Act Phase
-lineActs k l = cond (nextIs notLf l) (eats false (line k)) (halts false k)
+abbrev pub lineActs : Line → List ℕ → Act Phase
+lineActs k l = cond (nextIs notLf l) (eats false (line k)) (halts false (lineKind k))
 
 abbrev pub closingActs : ℕ → Act Phase
 closingActs d = eats false (cond (leb d 1) closing (into (d - 1)))
@@ -150,7 +155,7 @@ module _ (u : Letters) where
   -- ---- what the machine does in a state
   unfoldable pub act : Phase → List ℕ → Act Phase
   act behindSlash l =
-      cond (eqb (peek l) 0x2F) (eats false (line lineComment))
+      cond (eqb (peek l) 0x2F) (eats false (line ofComment))
       (cond (eqb (peek l) 0x2A) (eats false (inside 1))
       (halts false slashMark))
   act (line k) l = lineActs k l
@@ -162,9 +167,9 @@ module _ (u : Letters) where
   act name l = nameActs l
   act emojiName l = cond (nextIs (goesOn u) l) (eats false emojiName) (halts false invalidIdent)
   act (spelling bare n) l =
-      cond (eqb (peek l) (letter n)) (eats false (cond (leb 5 n) (line pragma) (spelling bare (suc n))))
+      cond (eqb (peek l) (letter n)) (eats false (cond (leb 5 n) (line ofPragma) (spelling bare (suc n))))
       (cond bare (nameActs l) (halts false invalidIdent))
-  act behindAt l = cond (u .start (peek l)) (lineActs annotation l) (halts false atSign)
+  act behindAt l = cond (u .start (peek l)) (lineActs ofAnnotation l) (halts false atSign)
   act behindDollar l = cond (nextIs (wideEmoji u) l) (eats false emojiName) (wireActs false l)
   act (wire any) l = wireActs any l
   act zeroFirst l =
@@ -202,10 +207,12 @@ module _ (u : Letters) where
       (cond (wideEmoji u c) emojiName
       (single unknown))))))))))
 
--- ---- what is asked of the letters: those of `pragma` go on with an identifier, and an LF neither begins one nor goes on with
--- one; nor does NUL, which stands for the end, begin one
+-- ---- what is asked of the letters: those of `pragma` go on with an identifier; an LF and a CR neither begin one nor go on with one; and
+-- NUL, which stands for the end, begins none
 pub record Usual (u : Letters) : Type 0 where
   pub word : all (u .more) (tail pragmaWord) ≡ true
   pub no-start : u .start 0x0A ≡ false
-  pub no-nul : u .start 0 ≡ false
   pub no-more : u .more 0x0A ≡ false
+  pub cr-start : u .start 0x0D ≡ false
+  pub cr-more : u .more 0x0D ≡ false
+  pub no-nul : u .start 0 ≡ false

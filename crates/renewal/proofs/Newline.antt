@@ -14,7 +14,7 @@ use Rattle.lexer.specs.Outcome.{tokensOf}
 use Rattle.tokens.specs.Tiling.{Each, total, Formed}
 use Rattle.tokens.proofs.Tiling.{tiles}
 use Rattle.locality.specs.Counted.{Item, isCounted as isKept, counted as kept, withBytes, countedOf, Run, withNewline}
-use Rattle.locality.proofs.Clause.{newline-clause}
+use Rattle.locality.proofs.Clause.{newline-shorter, newline-clause}
 use Rattle.renewal.specs.Members.{Member, isCounted, memberOf, counted, membersBy, membersOf}
 use Rattle.renewal.specs.Key.{keyOf, keyOfText}
 
@@ -37,37 +37,19 @@ members-of : (profile : ℕ) (s : List ℕ) → membersOf profile s ≡ members 
 unfolding membersOf membersBy countedOf
 members-of profile s = members-are (tokensOf profile s) s
 
--- ---- the new text is no longer
-total-join : (a b : List Tok) → total (a ++ b) ≡ total a + total b
-total-join [] b = omega arith
-total-join (t ∷ a) b = omega (arith, total-join a b)
-
-each-behind : (a b : List Tok) → Each Formed (a ++ b) → Each Formed b
-each-behind [] b e = e
-each-behind (t ∷ a) b e = each-behind a b (e .1)
-
-some-bytes : (a b : List Tok) → 1 ≤ length a → Each Formed (a ++ b) → 1 ≤ total a
-some-bytes [] b h e = absurd (omega arith)
-some-bytes (t ∷ a) b h e = omega (arith, e .0 .some)
-
-no-longer : (profile : ℕ) {s : List ℕ} {from to : ℕ} → Run profile s from to → length (withNewline s from to) ≤ length s
-unfolding withNewline
-no-longer profile {s} {from} {to} r =
-    let t = tiles profile s in
-    let e : Each Formed (r .before ++ (r .run ++ r .behind)) = rw (← r .is) (t .each) in
-    let run : 1 ≤ total (r .run) = some-bytes (r .run) (r .behind) (r .some) (each-behind (r .before) (r .run ++ r .behind) e) in
-    let sum : total (r .before ++ (r .run ++ r .behind)) ≡ length s = ap total (sym (r .is)) ∙ t .all in
-    omega
-    (arith, r .starts, r .ends, total-join (r .before) (r .run ++ r .behind), total-join (r .run) (r .behind), length-append (take from s) (0x0A ∷ drop to s), length-take from s, length-drop to s)
+-- so where the counted tokens are the same, the keys are: each corollary of `locality` on what may change speaks of the key
+pub same-key : (profile : ℕ) (s s′ : List ℕ) → countedOf profile s ≡ countedOf profile s′ → keyOfText profile s ≡ keyOfText profile s′
+unfolding keyOfText
+same-key profile s s′ e = ap keyOf (members-of profile s ∙ ap members e ∙ sym (members-of profile s′))
 
 -- ---- THE NEWLINE CLAUSE: of a text that is accepted, with one newline in place of any unbroken run of one or more uncounted tokens, the new text
 -- is accepted too, and its key is the same
 pub newline-key : (profile : ℕ) {s : List ℕ} {from to : ℕ} → checkCut s profile .0 ≡ done → Run profile s from to →
     (checkCut (withNewline s from to) profile .0 ≡ done) × (keyOfText profile (withNewline s from to) ≡ keyOfText profile s)
-unfolding checkCut keyOfText
+unfolding checkCut
 newline-key profile {s} {from} {to} h r =
     let a = cut-accepted s profile h in
     let c = newline-clause profile (a .1 .good) r in
     let s′ = withNewline s from to in
-    let ok : Accepted s′ = record { short = omega (arith, no-longer profile r, a .1 .short); good = c .0 } in
-    (rw (lt-ltb profile 2 (a .0), not-refused s′ ok), ap keyOf (members-of profile s′ ∙ ap members (c .1) ∙ sym (members-of profile s)))
+    let ok : Accepted s′ = record { short = omega (arith, newline-shorter profile r, a .1 .short); good = c .0 } in
+    (rw (lt-ltb profile 2 (a .0), not-refused s′ ok), same-key profile s′ s (c .1))
