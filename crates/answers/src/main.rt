@@ -1,5 +1,6 @@
 // Answers the cases on standard input, one a line: prints each line again, with ` = ` and its answer behind it.
 mod bodies;
+mod keys;
 mod lines;
 mod output;
 mod tasks;

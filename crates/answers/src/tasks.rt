@@ -1,5 +1,6 @@
 // The tasks: each is a function of its arguments and an arm of `answer`.
 use crate::bodies;
+use crate::keys;
 use crate::output::put;
 use crate::output::put_all;
 use crate::output::put_number;
@@ -179,6 +180,15 @@ fn answer(line: &[u8], room: &mut [u8], out: &mut [u8], used: usize) -> usize {
     }
     if words::same(task, b"ident") {
         return ident(arguments, room, out, used);
+    }
+    if words::same(task, b"key") {
+        return keys::key(arguments, room, out, used);
+    }
+    if words::same(task, b"keyroom") {
+        return keys::keyroom(arguments, room, out, used);
+    }
+    if words::same(task, b"pair") {
+        return keys::pair(arguments, room, out, used);
     }
     bodies::answer(task, arguments, room, out, used)
 }

@@ -3,7 +3,7 @@
 use Prim.Native.Nat.{ℕ, _+_, _-_, _≤_, _<_}
 use native.Mathlib.Decide.{decLt, ℕ-discrete}
 use native.Mathlib.Omega.{arith}
-use mathlib.Core.Path.{_≡_, refl, ap, sym, _∙_}
+use mathlib.Core.Path.{_≡_, ap, sym, _∙_}
 use mathlib.Core.Bool.{Bool, true, not}
 use mathlib.Core.List.{List, [], _∷_, cons≢nil}
 use lib.Dec.{eqb}
@@ -12,24 +12,24 @@ use lib.Seq.{length-take-le}
 use borrow.Author.Tests.{lt-ltb}
 use Rattle.unicode.specs.Utf8.{first, chars, width}
 use Rattle.unicode.specs.Text.{bytes, left}
-use Rattle.unicode.proofs.Text.{chars-nil, chars-first, bytes-chars, ends-bytes, point-at}
+use Rattle.unicode.proofs.Text.{chars-nil, chars-first, bytes-chars, point-at}
 use Rattle.unicode.proofs.Ascii.{chars-ascii, wide-code}
 use Rattle.text.specs.Answer.{longest}
 use Rattle.lexer.specs.Cut.{Letters, Tok, Token, advance, token, piece, tokens}
-use Rattle.lexer.specs.Steps.{Cuts, Advanced}
+use Rattle.lexer.specs.Steps.{Advanced}
 use Rattle.lexer.specs.Unicode.{unicode}
 use Rattle.lexer.specs.Outcome.{tokensOf}
-use Rattle.lexer.proofs.Shapes.{Shape, plain, literal, advance-shape, ends-advance, tokens-nil}
+use Rattle.lexer.proofs.Shapes.{Shape, plain, literal, advance-shape, tokens-nil}
 use Rattle.lexer.proofs.Whole.{tokens-at}
 use Rattle.tokens.proofs.First.{tokens-first, first-some}
 use Rattle.tokens.proofs.Tiling.{formed-of}
-use Rattle.renewal.specs.Members.{Member, isCounted, memberOf}
+use Rattle.renewal.specs.Members.{isCounted, memberOf}
 use Rattle.renewal.specs.Key.{noBody, bodyLength}
-use Rattle.renewal.specs.Rules.{Allowed, Ruled, mark, stored, First, Cutter, ownBytes}
+use Rattle.renewal.specs.Rules.{Ruled, mark, stored, First, Cutter, ownBytes}
 use Rattle.renewal.specs.Rules as rules
 use Rattle.renewal.specs.Steps.{bodies, cutBy, member, entry, Ready, Entered, Walked}
 use Rattle.renewal.proofs.Bodies.{plain-known, literal-known, plain-body, literal-body, empty-mark}
-use Rattle.renewal.proofs.Marks.{Own, advance-mark}
+use Rattle.renewal.proofs.Marks.{advance-mark}
 use Rattle.renewal.proofs.Walking.{Step, Walking, walk-ready, walk-on, walk-end}
 
 -- ---- an ASCII character is one byte, and its own

@@ -1,19 +1,17 @@
 -- Keys are equal exactly when the lists of counted tokens are; and how long a key can be. Over any cutter, and for the profiles'.
 -- Assumes nothing.
-use Prim.Native.Nat.{ℕ, _+_, _-_, _*_, _≤_}
+use Prim.Native.Nat.{ℕ, _-_, _*_, _≤_}
 use native.Mathlib.Omega.{arith}
-use mathlib.Core.Path.{_≡_, refl, ap, sym, _∙_}
+use mathlib.Core.Path.{_≡_, refl, ap}
 use mathlib.Core.Bool.{Bool, true, false}
-use mathlib.Core.List.{List, [], _∷_, _++_}
-use lib.ListN.{length, take, drop, length-drop}
-use lib.Seq.{take-append-seam}
+use mathlib.Core.List.{List, _∷_}
+use lib.ListN.{length, drop, length-drop}
 use Rattle.lists.proofs.Cut.{by-length}
-use Rattle.text.specs.Answer.{Accepted, done, longest, checkCut}
+use Rattle.text.specs.Answer.{done, longest, checkCut}
 use Rattle.text.proofs.Checks.{cut-accepted}
 use Rattle.lexer.specs.Cut.{Tok}
-use Rattle.lexer.specs.Outcome.{tokensOf}
 use Rattle.tokens.specs.Tiling.{Each}
-use Rattle.renewal.specs.Members.{Member, isCounted, memberOf, counted, membersBy, membersOf}
+use Rattle.renewal.specs.Members.{isCounted, memberOf, counted, membersBy, membersOf}
 use Rattle.renewal.specs.Key.{keyOf, keyBy, keyOfText}
 use Rattle.renewal.specs.Rules.{Ruled, First, Cutter}
 use Rattle.renewal.proofs.Prefix.{keys-once, ruled-told}

@@ -1,6 +1,6 @@
 -- The answer of `renewal_key`, and that it is the only one.
 -- Assumes nothing.
-use Prim.Native.Nat.{ℕ, _*_, _/_, _≤_, _<_}
+use Prim.Native.Nat.{ℕ, _/_, _≤_, _<_}
 use native.Mathlib.Omega.{arith}
 use native.Mathlib.Nat.{zero-add}
 use mathlib.Core.Path.{_≡_, refl, sym, subst, _∙_}
@@ -15,7 +15,7 @@ use Rattle.text.specs.Answer.{Answered, done, roomTooSmall, checkCut}
 use Rattle.lexer.specs.Cut.{Letters, Tok}
 use Rattle.unicode.specs.Ranges.{flat}
 use Rattle.unicode.specs.Ucd.{xidStart, xidContinue, emoji}
-use Rattle.lexer.specs.Unicode.{unicode, lent}
+use Rattle.lexer.specs.Unicode.{lent}
 use Rattle.lexer.specs.Outcome.{tokensOf}
 use Rattle.lexer.proofs.Unicode.{lent-is}
 use Rattle.renewal.specs.Members.{membersOf}

@@ -1,6 +1,6 @@
 -- Numbers as bytes can be read back; and lists that begin alike.
 -- Assumes nothing.
-use Prim.Native.Nat.{ℕ, zero, suc, _+_, _*_, _/_, _%_, _≤_, _<_}
+use Prim.Native.Nat.{ℕ, zero, suc, _+_, _*_, _/_, _≤_, _<_}
 use native.Mathlib.Omega.{arith}
 use native.Mathlib.Nat.{mod-add-div}
 use mathlib.Core.Path.{_≡_, refl, ap}
