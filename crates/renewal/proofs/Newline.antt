@@ -7,7 +7,8 @@ use mathlib.Core.List.{List, [], _∷_, _++_}
 use lib.ListN.{length, take, drop, length-append, length-take, length-drop}
 use borrow.Author.Tests.{lt-ltb}
 use Rattle.lists.proofs.Bools.{by-test}
-use Rattle.text.specs.Answer.{Accepted, done, checkCut}
+use Rattle.unicode.specs.Utf8.{WellFormed}
+use Rattle.text.specs.Answer.{done, longest, checkCut}
 use Rattle.text.proofs.Checks.{cut-accepted, not-refused}
 use Rattle.lexer.specs.Cut.{Tok}
 use Rattle.lexer.specs.Outcome.{tokensOf}
@@ -42,14 +43,18 @@ pub same-key : (profile : ℕ) (s s′ : List ℕ) → countedOf profile s ≡ c
 unfolding keyOfText
 same-key profile s s′ e = ap keyOf (members-of profile s ∙ ap members e ∙ sym (members-of profile s′))
 
+-- with it a text that is well-formed and not too long is accepted, where the other was
+pub same-accepted : (profile : ℕ) (s s′ : List ℕ) → checkCut s profile .0 ≡ done → WellFormed s′ → length s′ ≤ longest → countedOf profile s′ ≡ countedOf profile s →
+    (checkCut s′ profile .0 ≡ done) × (keyOfText profile s′ ≡ keyOfText profile s)
+unfolding checkCut
+same-accepted profile s s′ h f l e =
+    (rw (lt-ltb profile 2 (cut-accepted s profile h .0), not-refused s′ (record { short = l; good = f })), same-key profile s′ s e)
+
 -- ---- THE NEWLINE CLAUSE: of a text that is accepted, with one newline in place of any unbroken run of one or more uncounted tokens, the new text
 -- is accepted too, and its key is the same
 pub newline-key : (profile : ℕ) {s : List ℕ} {from to : ℕ} → checkCut s profile .0 ≡ done → Run profile s from to →
     (checkCut (withNewline s from to) profile .0 ≡ done) × (keyOfText profile (withNewline s from to) ≡ keyOfText profile s)
-unfolding checkCut
 newline-key profile {s} {from} {to} h r =
-    let a = cut-accepted s profile h in
-    let c = newline-clause profile (a .1 .good) r in
-    let s′ = withNewline s from to in
-    let ok : Accepted s′ = record { short = omega (arith, newline-shorter profile r, a .1 .short); good = c .0 } in
-    (rw (lt-ltb profile 2 (a .0), not-refused s′ ok), same-key profile s′ s (c .1))
+    let a = cut-accepted s profile h .1 in
+    let c = newline-clause profile (a .good) r in
+    same-accepted profile s (withNewline s from to) h (c .0) (omega (arith, newline-shorter profile r, a .short)) (c .1)
