@@ -1,4 +1,4 @@
--- In the modes of bytes a character that is given is below 256: the Rust's `unescape_byte` hands it to `byte_from_char`, which keeps it.
+-- In Byte mode a character that is given is below 256: the Rust's `unescape_byte` hands it to `byte_from_char`, which keeps it.
 -- Assumes nothing.
 use Prim.Native.Nat.{ℕ, _<_}
 use native.Mathlib.Omega.{arith}

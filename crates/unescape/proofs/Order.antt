@@ -1,4 +1,4 @@
--- The items of a body are in order, none is empty, and error 10 is never given.
+-- The items of a body are in order, and none is empty.
 -- Assumes nothing.
 use Prim.Native.Nat.{ℕ, _+_, _-_, _≤_, _<_}
 use native.Mathlib.Omega.{arith}

@@ -8,7 +8,7 @@ use lib.Dec.{eqb}
 use Rattle.unescape.specs.Errors.{Outcome, error, number, isGiven, unskippedWhitespaceWarning, multipleSkippedLinesWarning}
 use Rattle.unescape.specs.Bodies.{Item}
 
--- an item says a character, or an error that is given: error 10 never is
+-- an item says a character, or an error that is given. A character's number is not bounded here, so this alone does not shut a number out
 pub record Says (i : Item) : Type 0 where
   pub of : Outcome
   pub number-is : i .outcome ≡ number of
