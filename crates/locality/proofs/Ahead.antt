@@ -13,10 +13,9 @@ use Rattle.lexer.specs.Unicode.{unicode}
 use Rattle.lexer.specs.Outcome.{tokensOf}
 use Rattle.tokens.specs.Tiling.{total}
 use Rattle.locality.specs.Phases.{act, Usual}
-use Rattle.locality.specs.Counted.{Item}
 use Rattle.locality.proofs.Phases.{two, ends}
 use Rattle.locality.proofs.Swap.{swap-two}
-use Rattle.locality.proofs.Cuts.{texts, Cuts, cuts-text, split, cuts-tokens, total-bytes}
+use Rattle.locality.proofs.Cuts.{Item, texts, Cuts, cuts-text, split, cuts-tokens, total-bytes}
 use Rattle.locality.proofs.Between.{piece-swap, cuts-swap}
 use Rattle.locality.proofs.Written.{encode-bytes, read-all}
 use Rattle.locality.proofs.Clause.{unicode-usual}

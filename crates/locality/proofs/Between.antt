@@ -10,11 +10,10 @@ use Rattle.unicode.specs.Utf8.{width}
 use Rattle.lexer.specs.Kinds.{whitespaceKind}
 use Rattle.lexer.specs.Cut.{Letters, Tok, piece}
 use Rattle.locality.specs.Phases.{act, first, Usual}
-use Rattle.locality.specs.Counted.{Item, counted}
 use Rattle.locality.proofs.Phases.{piece-run, two, ends}
 use Rattle.locality.proofs.Swap.{Swap, Always, swap-front, run-swap}
 use Rattle.locality.proofs.Newline.{NoUnit, lf-blank, lf-stops, blank-swap, Ended, end-swap}
-use Rattle.locality.proofs.Cuts.{texts, Cuts, none, more, begins, whole, Over, one-more}
+use Rattle.locality.proofs.Cuts.{Item, counted, texts, Cuts, none, more, begins, whole, Over, one-more}
 use Rattle.locality.proofs.White.{white-none, lf-white, white-join, white-more, all-white, white-uncounted, piece-white, spaces, kind-white}
 
 module _ (u : Letters) (usual : Usual u) (profile : ℕ) where

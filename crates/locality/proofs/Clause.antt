@@ -23,11 +23,12 @@ use Rattle.lexer.specs.Outcome.{tokensOf}
 use Rattle.tokens.specs.Tiling.{Each, total, Formed}
 use Rattle.tokens.proofs.Tiling.{tiles}
 use Rattle.locality.specs.Phases.{Usual}
-use Rattle.locality.specs.Counted.{Item, isCounted, counted, noneCount, countedOf, Run, withNewline}
+use Rattle.tokens.specs.Members.{isCounted, membersOf}
+use Rattle.locality.specs.Counted.{noneCount, Run, withNewline}
 use Rattle.locality.proofs.Phases.{ends}
 use Rattle.locality.proofs.Newline.{NoUnit}
 use Rattle.locality.proofs.Counted.{others-count}
-use Rattle.locality.proofs.Cuts.{texts, toks, counted-join, Cuts, none, more, cuts-text, cuts-join, split, whole, total-bytes, Over}
+use Rattle.locality.proofs.Cuts.{Item, counted, texts, toks, counted-join, Cuts, none, more, cuts-text, cuts-join, split, whole, total-bytes, Over}
 use Rattle.locality.proofs.White.{white-isnt}
 use Rattle.locality.proofs.Between.{newline}
 use Rattle.locality.proofs.Written.{encode-append, all-append, all-join, encode-bytes, read-all, written, counted-of}
@@ -108,7 +109,7 @@ new-scalars x y r h =
 module _ (profile : ℕ) where
   clause-bytes : {i w : List Item} {l m r : List ℕ} (from to : ℕ) → Cuts unicode profile i l m → Cuts unicode profile w m r → 1 ≤ length (toks w) →
       noneCount (toks w) ≡ true → all isScalar l ≡ true → from ≡ total (toks i) → to ≡ total (toks i) + total (toks w) →
-      WellFormed (withNewline (encodeAll l) from to) × (countedOf profile (withNewline (encodeAll l) from to) ≡ countedOf profile (encodeAll l))
+      WellFormed (withNewline (encodeAll l) from to) × (membersOf profile (withNewline (encodeAll l) from to) ≡ membersOf profile (encodeAll l))
   clause-bytes {i} {w} {l} {m} {r} from to a b n h v e f =
       let j = whole unicode profile r in
       let o = newline-chars unicode unicode-usual profile a b n h (j .cuts) in
@@ -124,7 +125,7 @@ module _ (profile : ℕ) where
 
   -- THE NEWLINE CLAUSE: one newline in place of any unbroken run of one or more uncounted tokens leaves the counted tokens as they are,
   -- one by one, with kind, length, suffix start and bytes; and the new text is well-formed as the old one is
-  pub newline-clause : {s : List ℕ} {from to : ℕ} → WellFormed s → Run profile s from to → WellFormed (withNewline s from to) × (countedOf profile (withNewline s from to) ≡ countedOf profile s)
+  pub newline-clause : {s : List ℕ} {from to : ℕ} → WellFormed s → Run profile s from to → WellFormed (withNewline s from to) × (membersOf profile (withNewline s from to) ≡ membersOf profile s)
   unfolding tokensOf
   newline-clause {s} {from} {to} f r =
       let e = well-formed-encoded s f in

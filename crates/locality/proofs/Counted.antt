@@ -13,7 +13,7 @@ use Rattle.unicode.specs.Text.{skip}
 use Rattle.lexer.specs.Chars.{isWhitespace}
 use Rattle.lexer.specs.Kinds.{marks, markIn, int, float, bitStr, str, whitespaceKind}
 use Rattle.lexer.specs.Cut.{Letters, Token, Quote, peek, isDigit, isE, block, slash, digits, exponent, exponentOf, point, fraction, based, number, quoted, quoteKind, isBit, withoutLf, twice, pragmaWord, agree, pound, wideEmoji, name, word, annotated, hardware, advance}
-use Rattle.locality.specs.Counted.{isCounted}
+use Rattle.tokens.specs.Members.{isCounted}
 
 -- numbers and quoted texts have large kinds
 large : (k : ℕ) → 5 ≤ k → isCounted k ≡ true

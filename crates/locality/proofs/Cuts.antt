@@ -11,7 +11,16 @@ use Rattle.unicode.proofs.Text.{bytes-append}
 use Rattle.lexer.specs.Cut.{Letters, Tok, advance, piece, tokens}
 use Rattle.lexer.proofs.Shapes.{ends-advance, tokens-nil, tokens-cons}
 use Rattle.tokens.specs.Tiling.{total}
-use Rattle.locality.specs.Counted.{Item, isCounted, counted}
+use Rattle.tokens.specs.Members.{isCounted}
+
+-- a token's record and its characters
+abbrev pub Item : Type 0
+Item = Tok × List ℕ
+
+-- those that count
+unfoldable pub counted : List Item → List Item
+counted [] = []
+counted (i ∷ is) = cond (isCounted (i .0 .kind)) (i ∷ counted is) (counted is)
 
 -- the characters of tokens, one after the other
 unfoldable pub texts : List Item → List ℕ

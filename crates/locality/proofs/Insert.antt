@@ -19,11 +19,12 @@ use Rattle.lexer.specs.Chars.{isWhitespace, whitespace}
 use Rattle.lexer.specs.Kinds.{lineComment, blockComment, unclosedComment, whitespaceKind}
 use Rattle.lexer.specs.Cut.{Letters, Tok, Token, peek, notLf, opens, closes, block, slash, isUnit, advance, piece}
 use Rattle.locality.specs.Phases.{Line, ofComment, ofPragma, ofAnnotation, lineKind, act, Usual}
-use Rattle.locality.specs.Counted.{Item, isCounted, counted, noneCount, lastIs, isLine, isKept}
+use Rattle.tokens.specs.Members.{isCounted}
+use Rattle.locality.specs.Counted.{noneCount, lastIs, isLine, isKept}
 use Rattle.locality.proofs.Swap.{Swap}
 use Rattle.locality.proofs.Newline.{swap-one, cr-blank, lf-blank, Stops, blank-swap}
 use Rattle.locality.proofs.Counted.{others-count}
-use Rattle.locality.proofs.Cuts.{texts, toks, counted-join, Cuts, none, more, cuts-join, Over, one-more, over-self, over-first}
+use Rattle.locality.proofs.Cuts.{Item, counted, texts, toks, counted-join, Cuts, none, more, cuts-join, Over, one-more, over-self, over-first}
 use Rattle.locality.proofs.White.{White, white-none, white-more, lf-white, cr-white, white-join, white-isnt, all-white, piece-white, spaces, kind-white, over-white}
 use Rattle.locality.proofs.Between.{piece-swap, cuts-swap, Lasts, over-swap}
 

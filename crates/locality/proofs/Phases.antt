@@ -17,7 +17,7 @@ use Rattle.unicode.specs.Utf8.{width}
 use Rattle.unicode.specs.Text.{bytes, skip, keep}
 use Rattle.unicode.proofs.Text.{skip-nil, skip-more, skip-stop}
 use Rattle.lexer.specs.Chars.{isWhitespace}
-use Rattle.lexer.specs.Kinds.{lineComment, blockComment, unclosedComment, whitespaceKind, ident, hardwareIdent, invalidIdent, pragma, annotation, atSign, dollar, slashMark, unknown, marks, markIn, int, float, str, bitStr}
+use Rattle.lexer.specs.Kinds.{blockComment, unclosedComment, whitespaceKind, ident, hardwareIdent, invalidIdent, pragma, atSign, dollar, slashMark, unknown, marks, markIn, int, float, str, bitStr}
 use Rattle.lexer.specs.Cut.{Letters, Token, Tok, peek, notLf, isDigit, isE, orUnderscore, met, opens, closes, block, slash, digits, exponent, exponentOf, point, fraction, based, number, isUnit, escapes, quoted, quoteKind, isBit, withoutLf, twice, pragmaWord, agree, pound, Quote, wideEmoji, goesOn, name, word, annotated, hardware, identifier, suffix, advance, piece, tokens}
 use Rattle.locality.specs.Machine.{Act, eats, halts, run, LooksAtTwo, cutBy}
 use Rattle.locality.specs.Phases as Phases

@@ -13,13 +13,14 @@ use Rattle.unicode.specs.Utf8.{table, behind, begins, joined, readBy, first, ne
 use Rattle.unicode.specs.Text.{bytes, skip}
 use Rattle.lexer.specs.Chars.{whitespace}
 use Rattle.lexer.specs.Kinds.{marks, markIn}
-use Rattle.lexer.specs.Cut.{Tok, notLf, isDigit, isHexDigit, block, slash, digits, exponent, exponentOf, point, fraction, based, number, isUnit, quoted, withoutLf, twice, quoteKind, agree, pound, name, word, annotated, hardware, identifier, suffix, advance, piece, tokens, flat}
+use Rattle.lexer.specs.Cut.{notLf, isDigit, isHexDigit, block, slash, digits, exponent, exponentOf, point, fraction, based, number, isUnit, quoted, withoutLf, twice, quoteKind, agree, pound, name, word, annotated, hardware, identifier, suffix, advance, piece, tokens, flat}
 use Rattle.lexer.specs.Unicode.{unicode}
 use Rattle.lexer.specs.Outcome.{tokensOf}
 use Rattle.locality.specs.Machine.{run, cutBy}
 use Rattle.locality.specs.Phases as Phases
 use Rattle.locality.specs.Phases.{act}
-use Rattle.locality.specs.Counted.{Item, isCounted, counted, withBytes, countedOf, Run, withNewline, inserted}
+use Rattle.tokens.specs.Members.{Member, isCounted, counted, membersBy, membersOf}
+use Rattle.locality.specs.Counted.{Run, withNewline, inserted}
 
 -- ---- the machine, on bytes
 abbrev cuts : ℕ → List ℕ → List ℕ
@@ -37,8 +38,8 @@ unfolding all pieces cut eat inTable xidStart xidContinue emoji table behind beg
 machine-samples = (refl, refl, refl, refl, refl, refl)
 
 -- ---- the counted tokens, on bytes
-abbrev item : ℕ → ℕ → ℕ → List ℕ → Item
-item k n s text = (record { kind = k; len = n; suff = s }, text)
+abbrev item : ℕ → ℕ → ℕ → List ℕ → Member
+item k n s text = record { kind = k; len = n; suff = s; bytes = text }
 
 -- `a//b` has a run of one uncounted token, and with a newline for it
 run-sample : Run 0 (0x61 ∷ 0x2F ∷ 0x2F ∷ 0x62 ∷ []) 1 4
@@ -55,24 +56,24 @@ run-sample =
       ends = refl;
     }
 
-clause-sample : (countedOf 0 (0x61 ∷ 0x2F ∷ 0x2F ∷ 0x62 ∷ []) ≡ item 5 1 0 (0x61 ∷ []) ∷ []) × (withNewline (0x61 ∷ 0x2F ∷ 0x2F ∷ 0x62 ∷ []) 1 4 ≡ 0x61 ∷ 0x0A ∷ [])
-unfolding all pieces cut eat inTable xidStart xidContinue emoji table behind begins joined readBy first next chars width bytes skip whitespace marks markIn unicode tokensOf notLf isDigit isHexDigit block slash digits exponent exponentOf point fraction based number isUnit quoted withoutLf twice quoteKind agree pound name word annotated hardware identifier suffix advance piece tokens isCounted counted withBytes countedOf withNewline
+clause-sample : (membersOf 0 (0x61 ∷ 0x2F ∷ 0x2F ∷ 0x62 ∷ []) ≡ item 5 1 0 (0x61 ∷ []) ∷ []) × (withNewline (0x61 ∷ 0x2F ∷ 0x2F ∷ 0x62 ∷ []) 1 4 ≡ 0x61 ∷ 0x0A ∷ [])
+unfolding all pieces cut eat inTable xidStart xidContinue emoji table behind begins joined readBy first next chars width bytes skip whitespace marks markIn unicode tokensOf notLf isDigit isHexDigit block slash digits exponent exponentOf point fraction based number isUnit quoted withoutLf twice quoteKind agree pound name word annotated hardware identifier suffix advance piece tokens isCounted counted membersBy membersOf withNewline
 clause-sample = (refl, refl)
 
 -- where the counted tokens change: a closed block comment behind a slash, `/` and `//**/`; a block comment that holds an LF behind a line
 -- comment, `//` and `///*` LF `*/`; a space behind a Pragma; CR LF for the LF behind a Pragma; a newline behind an unclosed quoted text, `"`
 -- and `"` LF. And a CR ends no line comment: `//` CR `a`
 exceptions :
-    (countedOf 0 (0x2F ∷ []) ≡ item 34 1 0 (0x2F ∷ []) ∷ [])
-    × (countedOf 0 (inserted (0x2F ∷ []) 1 (0x2F ∷ 0x2A ∷ 0x2A ∷ 0x2F ∷ [])) ≡ [])
-    × (countedOf 0 (0x2F ∷ 0x2F ∷ []) ≡ [])
-    × (countedOf 0 (inserted (0x2F ∷ 0x2F ∷ []) 2 (0x2F ∷ 0x2A ∷ 0x0A ∷ 0x2A ∷ 0x2F ∷ [])) ≡ item 33 1 0 (0x2A ∷ []) ∷ item 34 1 0 (0x2F ∷ []) ∷ [])
-    × (countedOf 1 (0x70 ∷ 0x72 ∷ 0x61 ∷ 0x67 ∷ 0x6D ∷ 0x61 ∷ []) ≡ item 8 6 0 (0x70 ∷ 0x72 ∷ 0x61 ∷ 0x67 ∷ 0x6D ∷ 0x61 ∷ []) ∷ [])
-    × (countedOf 1 (0x70 ∷ 0x72 ∷ 0x61 ∷ 0x67 ∷ 0x6D ∷ 0x61 ∷ 0x20 ∷ []) ≡ item 8 7 0 (0x70 ∷ 0x72 ∷ 0x61 ∷ 0x67 ∷ 0x6D ∷ 0x61 ∷ 0x20 ∷ []) ∷ [])
-    × (countedOf 1 (0x70 ∷ 0x72 ∷ 0x61 ∷ 0x67 ∷ 0x6D ∷ 0x61 ∷ 0x0A ∷ []) ≡ item 8 6 0 (0x70 ∷ 0x72 ∷ 0x61 ∷ 0x67 ∷ 0x6D ∷ 0x61 ∷ []) ∷ [])
-    × (countedOf 1 (0x70 ∷ 0x72 ∷ 0x61 ∷ 0x67 ∷ 0x6D ∷ 0x61 ∷ 0x0D ∷ 0x0A ∷ []) ≡ item 8 7 0 (0x70 ∷ 0x72 ∷ 0x61 ∷ 0x67 ∷ 0x6D ∷ 0x61 ∷ 0x0D ∷ []) ∷ [])
-    × (countedOf 0 (0x22 ∷ []) ≡ item 58 1 1 (0x22 ∷ []) ∷ [])
-    × (countedOf 0 (0x22 ∷ 0x0A ∷ []) ≡ item 58 2 2 (0x22 ∷ 0x0A ∷ []) ∷ [])
-    × (countedOf 0 (0x2F ∷ 0x2F ∷ 0x0D ∷ 0x61 ∷ []) ≡ [])
-unfolding all pieces cut eat inTable xidStart xidContinue emoji table behind begins joined readBy first next chars width bytes skip whitespace marks markIn unicode tokensOf notLf isDigit isHexDigit block slash digits exponent exponentOf point fraction based number isUnit quoted withoutLf twice quoteKind agree pound name word annotated hardware identifier suffix advance piece tokens isCounted counted withBytes countedOf inserted
+    (membersOf 0 (0x2F ∷ []) ≡ item 34 1 0 (0x2F ∷ []) ∷ [])
+    × (membersOf 0 (inserted (0x2F ∷ []) 1 (0x2F ∷ 0x2A ∷ 0x2A ∷ 0x2F ∷ [])) ≡ [])
+    × (membersOf 0 (0x2F ∷ 0x2F ∷ []) ≡ [])
+    × (membersOf 0 (inserted (0x2F ∷ 0x2F ∷ []) 2 (0x2F ∷ 0x2A ∷ 0x0A ∷ 0x2A ∷ 0x2F ∷ [])) ≡ item 33 1 0 (0x2A ∷ []) ∷ item 34 1 0 (0x2F ∷ []) ∷ [])
+    × (membersOf 1 (0x70 ∷ 0x72 ∷ 0x61 ∷ 0x67 ∷ 0x6D ∷ 0x61 ∷ []) ≡ item 8 6 0 (0x70 ∷ 0x72 ∷ 0x61 ∷ 0x67 ∷ 0x6D ∷ 0x61 ∷ []) ∷ [])
+    × (membersOf 1 (0x70 ∷ 0x72 ∷ 0x61 ∷ 0x67 ∷ 0x6D ∷ 0x61 ∷ 0x20 ∷ []) ≡ item 8 7 0 (0x70 ∷ 0x72 ∷ 0x61 ∷ 0x67 ∷ 0x6D ∷ 0x61 ∷ 0x20 ∷ []) ∷ [])
+    × (membersOf 1 (0x70 ∷ 0x72 ∷ 0x61 ∷ 0x67 ∷ 0x6D ∷ 0x61 ∷ 0x0A ∷ []) ≡ item 8 6 0 (0x70 ∷ 0x72 ∷ 0x61 ∷ 0x67 ∷ 0x6D ∷ 0x61 ∷ []) ∷ [])
+    × (membersOf 1 (0x70 ∷ 0x72 ∷ 0x61 ∷ 0x67 ∷ 0x6D ∷ 0x61 ∷ 0x0D ∷ 0x0A ∷ []) ≡ item 8 7 0 (0x70 ∷ 0x72 ∷ 0x61 ∷ 0x67 ∷ 0x6D ∷ 0x61 ∷ 0x0D ∷ []) ∷ [])
+    × (membersOf 0 (0x22 ∷ []) ≡ item 58 1 1 (0x22 ∷ []) ∷ [])
+    × (membersOf 0 (0x22 ∷ 0x0A ∷ []) ≡ item 58 2 2 (0x22 ∷ 0x0A ∷ []) ∷ [])
+    × (membersOf 0 (0x2F ∷ 0x2F ∷ 0x0D ∷ 0x61 ∷ []) ≡ [])
+unfolding all pieces cut eat inTable xidStart xidContinue emoji table behind begins joined readBy first next chars width bytes skip whitespace marks markIn unicode tokensOf notLf isDigit isHexDigit block slash digits exponent exponentOf point fraction based number isUnit quoted withoutLf twice quoteKind agree pound name word annotated hardware identifier suffix advance piece tokens isCounted counted membersBy membersOf inserted
 exceptions = (refl, refl, refl, refl, refl, refl, refl, refl, refl, refl, refl)

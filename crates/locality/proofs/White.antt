@@ -15,9 +15,9 @@ use Rattle.unicode.proofs.Text.{skip-nil, skip-more, skip-stop}
 use Rattle.lexer.specs.Chars.{isWhitespace, whitespace}
 use Rattle.lexer.specs.Kinds.{whitespaceKind}
 use Rattle.lexer.specs.Cut.{Letters, Tok, advance, piece}
-use Rattle.locality.specs.Counted.{Item, isCounted, counted}
+use Rattle.tokens.specs.Members.{isCounted}
 use Rattle.locality.proofs.Counted.{white-first}
-use Rattle.locality.proofs.Cuts.{Cuts, none, more, Over, over-self}
+use Rattle.locality.proofs.Cuts.{Item, counted, Cuts, none, more, Over, over-self}
 
 pub white-uncounted : (i : List Item) (k : Tok) (w : List ℕ) → k .kind ≡ whitespaceKind → counted ((k, w) ∷ i) ≡ counted i
 unfolding counted isCounted

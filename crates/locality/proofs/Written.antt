@@ -2,10 +2,10 @@
 -- Assumes nothing.
 use Prim.Native.Nat.{ℕ}
 use native.Mathlib.Omega.{arith}
-use mathlib.Core.Path.{_≡_, refl, ap, sym, _∙_}
+use mathlib.Core.Path.{_≡_, refl, ap, ap₂, sym, _∙_}
 use mathlib.Core.Bool.{Bool, true}
 use mathlib.Core.List.{List, [], _∷_, _++_, append-assoc, append-nil}
-use lib.ListN.{length, length-append}
+use lib.ListN.{length, drop, length-append}
 use lib.Seq.{take-at, drop-at}
 use Rattle.lists.specs.All.{all}
 use Rattle.lists.proofs.Bools.{by-test, both}
@@ -18,8 +18,8 @@ use Rattle.lexer.specs.Cut.{Letters, Tok, tokens}
 use Rattle.lexer.specs.Unicode.{unicode}
 use Rattle.lexer.specs.Outcome.{tokensOf}
 use Rattle.lexer.proofs.Shapes.{tokens-nil}
-use Rattle.locality.specs.Counted.{Item, isCounted, counted, withBytes, countedOf}
-use Rattle.locality.proofs.Cuts.{toks, Cuts, none, more, cuts-tokens, cut-length}
+use Rattle.tokens.specs.Members.{Member, isCounted, counted as members, membersBy, membersOf}
+use Rattle.locality.proofs.Cuts.{Item, counted, toks, Cuts, none, more, cuts-tokens, cut-length}
 
 pub encode-append : (a b : List ℕ) → encodeAll (a ++ b) ≡ encodeAll a ++ encodeAll b
 unfolding encodeAll
@@ -50,27 +50,27 @@ pub read-all : (l : List ℕ) → all isScalar l ≡ true → chars (encodeAll l
 read-all l h = ap chars (sym (append-nil (encodeAll l))) ∙ read-back l [] h ∙ ap (λ (y : List ℕ). l ++ y) chars-nil ∙ append-nil l
 
 -- ---- tokens with their bytes
-unfoldable pub written : List Item → List Item
-written [] = []
-written (i ∷ is) = (i .0, encodeAll (i .1)) ∷ written is
+abbrev member : Item → Member
+member i = record { kind = i .0 .kind; len = i .0 .len; suff = i .0 .suff; bytes = encodeAll (i .1) }
 
-counted-written : (i : List Item) → counted (written i) ≡ written (counted i)
-unfolding counted written
-counted-written [] = refl
-counted-written (x ∷ i) = let ih = counted-written i in by-test (isCounted (x .0 .kind)) (λ h. rw (h, ih)) (λ h. rw (h, ih))
+unfoldable pub written : List Item → List Member
+written [] = []
+written (i ∷ is) = member i ∷ written is
 
 module _ (u : Letters) (profile : ℕ) where
-  cuts-bytes : {i : List Item} {l z : List ℕ} → Cuts u profile i l z → all isScalar l ≡ true → withBytes (toks i) (encodeAll l) ≡ written i
-  unfolding withBytes written
+  cuts-bytes : {i : List Item} {l z : List ℕ} → Cuts u profile i l z → all isScalar l ≡ true → members (encodeAll l) (toks i) ≡ written (counted i)
+  unfolding members counted written
   cuts-bytes none a = refl
   cuts-bytes (more {i = i} {k = k} {c = c} {e = e} {r = r} h x rest) a =
       let b = all-append isScalar (c ∷ e) r (ap (all isScalar) (sym h) ∙ a) in
       let n : length (encodeAll (c ∷ e)) ≡ k .len = encode-bytes (c ∷ e) (b .0) ∙ sym (cut-length u profile c e r k x) in
-      rw (h, encode-append (c ∷ e) r, take-at (encodeAll (c ∷ e)) (encodeAll r) (k .len) n, drop-at (encodeAll (c ∷ e)) (encodeAll r) (k .len) n, cuts-bytes rest (b .1))
+      let ih : members (drop (k .len) (encodeAll (c ∷ e) ++ encodeAll r)) (toks i) ≡ written (counted i) = rw (drop-at (encodeAll (c ∷ e)) (encodeAll r) (k .len) n) (cuts-bytes rest (b .1)) in
+      rw (h, encode-append (c ∷ e) r)
+      (by-test (isCounted (k .kind)) (λ t. rw (t, members) (ap₂ (λ (y : List ℕ) (z : List Member). record { kind = k .kind; len = k .len; suff = k .suff; bytes = y } ∷ z) (take-at (encodeAll (c ∷ e)) (encodeAll r) (k .len) n) ih)) (λ t. rw (t, members) ih))
 
-pub counted-of : (profile : ℕ) {i : List Item} {l : List ℕ} → Cuts unicode profile i l [] → all isScalar l ≡ true → countedOf profile (encodeAll l) ≡ written (counted i)
-unfolding countedOf tokensOf
+pub counted-of : (profile : ℕ) {i : List Item} {l : List ℕ} → Cuts unicode profile i l [] → all isScalar l ≡ true → membersOf profile (encodeAll l) ≡ written (counted i)
+unfolding membersOf membersBy tokensOf
 counted-of profile {i} {l} c h =
     let t : tokens unicode profile (chars (encodeAll l)) ≡ toks i =
     ap (tokens unicode profile) (read-all l h) ∙ cuts-tokens unicode profile c ∙ ap (λ (y : List Tok). toks i ++ y) (tokens-nil unicode profile) ∙ append-nil (toks i) in
-    rw (t, cuts-bytes unicode profile c h) (counted-written i)
+    rw t (cuts-bytes unicode profile c h)

@@ -1,28 +1,17 @@
--- The tokens of a text with their bytes, and those of them that count; and a text with a newline in place of a part.
+-- Runs of tokens that do not count, and what is done to a text: a newline in place of a part, bytes put in.
 -- Assumes nothing.
 use Prim.Native.Nat.{ℕ, _+_, _≤_, _<_}
 use mathlib.Core.Path.{_≡_}
-use mathlib.Core.Bool.{Bool, true, false, not, cond, _||_}
+use mathlib.Core.Bool.{Bool, true, false, not, _||_}
 use mathlib.Core.List.{List, [], _∷_, _++_}
 use lib.Dec.{eqb}
 use lib.ListN.{length, take, drop}
 use Rattle.lists.specs.All.{all}
-use Rattle.lexer.specs.Kinds.{lineComment, blockComment, unclosedComment, whitespaceKind, pragma, annotation, str, bitStr}
+use Rattle.lexer.specs.Kinds.{lineComment, unclosedComment, whitespaceKind, pragma, annotation, str, bitStr}
 use Rattle.lexer.specs.Cut.{Tok}
 use Rattle.lexer.specs.Outcome.{tokensOf}
 use Rattle.tokens.specs.Tiling.{total}
-
--- a token's record and its bytes
-abbrev pub Item : Type 0
-Item = Tok × List ℕ
-
--- all kinds count but a line comment, a closed block comment and white space
-unfoldable pub isCounted : ℕ → Bool
-isCounted k = not (eqb k lineComment || (eqb k blockComment || eqb k whitespaceKind))
-
-unfoldable pub counted : List Item → List Item
-counted [] = []
-counted (i ∷ is) = cond (isCounted (i .0 .kind)) (i ∷ counted is) (counted is)
+use Rattle.tokens.specs.Members.{isCounted}
 
 -- the last token passes a test
 unfoldable pub lastIs : (ℕ → Bool) → List Tok → Bool
@@ -45,15 +34,6 @@ isKept k = eqb k pragma || eqb k annotation
 -- no token counts
 abbrev pub noneCount : List Tok → Bool
 noneCount ts = all (λ t. not (isCounted (t .kind))) ts
-
--- the tokens that s begins with, each with its bytes
-unfoldable pub withBytes : List Tok → List ℕ → List Item
-withBytes [] s = []
-withBytes (t ∷ ts) s = (t, take (t .len) s) ∷ withBytes ts (drop (t .len) s)
-
--- the counted tokens of a text: kind, length, suffix start and bytes of each
-unfoldable pub countedOf : ℕ → List ℕ → List Item
-countedOf profile s = counted (withBytes (tokensOf profile s) s)
 
 -- an unbroken run of one or more tokens that do not count stands in s, from one place to another; tokens before and behind it may be of any kind
 pub record Run (profile : ℕ) (s : List ℕ) (from to : ℕ) : Type 0 where

@@ -1,7 +1,7 @@
 -- A machine with two characters of lookahead fed character by character: the tokens that it hands out on the way, and at the finish.
 -- Assumes nothing.
 use Prim.Native.Nat.{ℕ, _+_}
-use mathlib.Core.Bool.{Bool, cond}
+use mathlib.Core.Bool.{cond}
 use mathlib.Core.List.{List, [], _∷_, _++_}
 use Rattle.unicode.specs.Utf8.{width}
 use Rattle.lexer.specs.Cut.{Tok}

@@ -12,7 +12,7 @@ use borrow.Author.Tests.{le-leb, lt-leb, leb-true, ne-eqb}
 use Rattle.lists.proofs.Bools.{by-test, both, or-true, on-cond}
 use Rattle.unicode.proofs.Rows.{every, each}
 use Rattle.lexer.specs.Kinds.{isPlain, isLiteral}
-use Rattle.renewal.specs.Members.{isCounted}
+use Rattle.tokens.specs.Members.{isCounted}
 use Rattle.renewal.specs.Key.{isMark, isText, noBody, bodyLength}
 use Rattle.renewal.specs.Steps.{bodiesFrom, bodies}
 

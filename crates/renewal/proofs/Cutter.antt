@@ -23,7 +23,7 @@ use Rattle.lexer.proofs.Shapes.{Shape, plain, literal, advance-shape, tokens-ni
 use Rattle.lexer.proofs.Whole.{tokens-at}
 use Rattle.tokens.proofs.First.{tokens-first, first-some}
 use Rattle.tokens.proofs.Tiling.{formed-of}
-use Rattle.renewal.specs.Members.{isCounted, memberOf}
+use Rattle.tokens.specs.Members.{isCounted, memberOf}
 use Rattle.renewal.specs.Key.{noBody, bodyLength}
 use Rattle.renewal.specs.Rules.{Ruled, mark, stored, First, Cutter, ownBytes}
 use Rattle.renewal.specs.Rules as rules

@@ -11,7 +11,7 @@ use Rattle.text.specs.Answer.{done, longest, checkCut}
 use Rattle.text.proofs.Checks.{cut-accepted}
 use Rattle.lexer.specs.Cut.{Tok}
 use Rattle.tokens.specs.Tiling.{Each}
-use Rattle.renewal.specs.Members.{isCounted, memberOf, counted, membersBy, membersOf}
+use Rattle.tokens.specs.Members.{isCounted, memberOf, counted, membersBy, membersOf}
 use Rattle.renewal.specs.Key.{keyOf, keyBy, keyOfText}
 use Rattle.renewal.specs.Rules.{Ruled, First, Cutter}
 use Rattle.renewal.proofs.Prefix.{keys-once, ruled-told}

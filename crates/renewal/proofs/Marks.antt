@@ -11,7 +11,7 @@ use Rattle.lists.proofs.Bools.{by-test, both, on-cond}
 use Rattle.unicode.specs.Text.{skip}
 use Rattle.lexer.specs.Chars.{isWhitespace}
 use Rattle.lexer.specs.Kinds.{marks, markIn, isLiteral}
-use Rattle.lexer.specs.Cut.{Letters, Token, peek, isDigit, block, slash, digits, number, quoted, quoteKind, agree, pragmaWord, pound, wideEmoji, goesOn, name, word, annotated, hardware, advance}
+use Rattle.lexer.specs.Cut.{Letters, Token, peek, isDigit, block, slash, digits, quoted, agree, pragmaWord, pound, wideEmoji, name, word, annotated, hardware, advance}
 use Rattle.lexer.proofs.Shapes.{number-part, quote-listed}
 use Rattle.renewal.specs.Key.{isMark}
 use Rattle.renewal.specs.Rules.{byteIn, ownBytes}

@@ -10,7 +10,7 @@ use lib.ListN.{length, take, drop, length-take}
 use lib.Dec.{eqb}
 use borrow.Author.Tests.{eq-eqb, ne-eqb}
 use Rattle.tokens.specs.Tiling.{Each}
-use Rattle.renewal.specs.Members.{Member}
+use Rattle.tokens.specs.Members.{Member}
 use Rattle.renewal.specs.Key.{bodyLength, digits, word, bodyOf, texts, held, encode, keyOf}
 use Rattle.renewal.specs.Rules.{Allowed, empty, plain, literal, ownBytes, Ruled, mark, stored}
 use Rattle.renewal.proofs.Words.{value, value-word, same-front}

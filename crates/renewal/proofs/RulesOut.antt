@@ -20,7 +20,7 @@ use Rattle.lexer.specs.Kinds.{marks, markIn}
 use Rattle.lexer.specs.Cut.{notLf, isDigit, isHexDigit, block, slash, digits, exponent, exponentOf, point, fraction, based, number, isUnit, quoted, quoteKind, agree, pound, name, word, annotated, hardware, identifier, suffix, advance, piece, tokens}
 use Rattle.lexer.specs.Unicode.{unicode}
 use Rattle.lexer.specs.Outcome.{tokensOf}
-use Rattle.renewal.specs.Members.{isCounted, counted, membersBy, membersOf}
+use Rattle.tokens.specs.Members.{isCounted, counted, membersBy, membersOf}
 use Rattle.renewal.specs.Key.{bodyLength, nextText, texts, held, encode, keyOf, keyOfText}
 use Rattle.renewal.specs.Key as key
 use Rattle.renewal.specs.Outcome.{outcome, keyed, Keyed}

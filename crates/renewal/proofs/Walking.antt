@@ -1,24 +1,20 @@
 -- The walk over a text's tokens that sizes or writes the key, over any cutter; and the answer.
 -- Assumes nothing.
-use Prim.Native.Nat.{ℕ, _+_, _-_, _*_, _/_, _≤_, _<_}
+use Prim.Native.Nat.{ℕ, _+_, _-_, _*_, _≤_, _<_}
 use native.Mathlib.Omega.{arith}
-use native.Mathlib.Nat.{zero-add}
-use mathlib.Core.Path.{_≡_, refl, ap, sym, subst, _∙_}
-use mathlib.Core.Bool.{Bool, true, false, cond, not, false≢true}
+use mathlib.Core.Path.{_≡_, refl, ap, sym, _∙_}
+use mathlib.Core.Bool.{Bool, true, false, cond, not}
 use mathlib.Core.List.{List, [], _∷_, _++_}
 use lib.Dec.{eqb}
 use lib.ListN.{length, take, drop, length-append, length-drop, drop-of-length-le}
-use lib.Seq.{sets, sets-eq, length-sets, length-take-le, drop-drop}
-use borrow.Author.Tests.{lt-ltb, le-ltb, eq-eqb, ne-eqb}
+use lib.Seq.{sets, length-sets, length-take-le, drop-drop}
 use Rattle.lists.proofs.Bools.{by-test, on-cond}
 use Rattle.lists.proofs.Put.{sets-append}
-use Rattle.text.specs.Answer.{Answered, done, roomTooSmall, longest, checkCut}
+use Rattle.text.specs.Answer.{longest}
 use Rattle.lexer.specs.Cut.{Tok}
-use Rattle.lexer.specs.Outcome.{tokensOf}
-use Rattle.renewal.specs.Members.{Member, isCounted, memberOf, counted, membersBy, membersOf}
-use Rattle.renewal.specs.Key.{noBody, bodyLength, held, encode, keyOf, keyBy, keyOfText}
-use Rattle.renewal.specs.Outcome.{outcome, keyed, Keyed}
-use Rattle.renewal.specs.Steps.{bodies, member, entry, Ready, Entered, Walked, Stored}
+use Rattle.tokens.specs.Members.{isCounted, memberOf, counted, membersBy}
+use Rattle.renewal.specs.Key.{noBody, bodyLength, held, encode, keyOf, keyBy}
+use Rattle.renewal.specs.Steps.{bodies, member, entry, Ready, Entered, Walked}
 use Rattle.renewal.proofs.Writing.{entry-few}
 
 -- ---- one token of the key

@@ -18,7 +18,7 @@ use Rattle.unicode.specs.Ucd.{xidStart, xidContinue, emoji}
 use Rattle.lexer.specs.Unicode.{lent}
 use Rattle.lexer.specs.Outcome.{tokensOf}
 use Rattle.lexer.proofs.Unicode.{lent-is}
-use Rattle.renewal.specs.Members.{membersOf}
+use Rattle.tokens.specs.Members.{membersOf}
 use Rattle.renewal.specs.Key.{keyBy, keyOfText}
 use Rattle.renewal.specs.Outcome.{outcome, keyed, Keyed}
 use Rattle.renewal.specs.Steps.{cutBy, Walked, Stored}

@@ -15,8 +15,6 @@ use borrow.Author.Tests.{eq-eqb, ne-eqb}
 use Rattle.lists.proofs.Bools.{on-cond}
 use Rattle.lists.specs.Put.{Put}
 use Rattle.lists.proofs.Put.{sets-append, put-then}
-use Rattle.text.specs.Answer.{longest}
-use Rattle.renewal.specs.Members.{Member}
 use Rattle.renewal.specs.Key.{noBody, bodyLength, digits, word, bodyOf, texts, held, encode}
 use Rattle.renewal.specs.Steps.{member, entry, sizeBy, BodyFits, Writable, Ready, Entered}
 use Rattle.renewal.proofs.Words.{digits-length}

@@ -8,7 +8,7 @@ use lib.ListN.{length, take, drop}
 use Rattle.lists.specs.Cut.{cut}
 use Rattle.lexer.specs.Kinds.{unclosedComment, ident, annotation, dollar, unknown, isLiteral}
 use Rattle.lexer.specs.Cut.{Tok}
-use Rattle.renewal.specs.Members.{Member, membersBy, membersOf}
+use Rattle.tokens.specs.Members.{Member, membersBy, membersOf}
 
 -- ---- the body
 -- the single marks but Dollar, which can be longer than one byte; 20 is never listed

@@ -1,4 +1,3 @@
-pub mod Members
 pub mod Key
 pub mod Rules
 pub mod Outcome

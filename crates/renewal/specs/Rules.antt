@@ -9,7 +9,7 @@ use lib.ListN.{length, drop}
 use Rattle.text.specs.Answer.{longest}
 use Rattle.lexer.specs.Kinds.{atSign, slashMark, marks}
 use Rattle.lexer.specs.Cut.{Tok}
-use Rattle.renewal.specs.Members.{Member, isCounted, memberOf}
+use Rattle.tokens.specs.Members.{Member, isCounted, memberOf}
 use Rattle.renewal.specs.Key.{noBody, bodyLength}
 
 -- what a key may hold: a kind alone; a length and a text of that length; or a suffix start between 1 and the length too

@@ -10,7 +10,7 @@ use lib.Seq.{sets}
 use Rattle.unicode.specs.Utf8.{chars}
 use Rattle.text.specs.Answer.{Answered, done, longest, checkRoom}
 use Rattle.lexer.specs.Cut.{Tok, Letters, tokens}
-use Rattle.renewal.specs.Members.{Member}
+use Rattle.tokens.specs.Members.{Member}
 use Rattle.renewal.specs.Key.{noBody, bodyLength, held, encode, keyBy}
 
 -- the constant table: the body lengths of the kinds 0 to 61

@@ -17,7 +17,7 @@ use Rattle.unescape.specs.Modes.{isSingle, isRaw, charactersShouldBeAscii}
 use Rattle.unescape.specs.Escapes.{toDigit, hexDigit, hexEscape, firstDigit, moreDigits, codePoint, closing, braced, unicodeEscape, simple, escape, asciiCheck}
 use Rattle.unescape.specs.Bodies.{alone, oneChar, charOrByte, items, itemsOf, flat as flatItems}
 use Rattle.unescape.specs.Outcome.{outcome as bodyOutcome, listed as bodyListed}
-use Rattle.renewal.specs.Members.{isCounted, counted, membersBy, membersOf}
+use Rattle.tokens.specs.Members.{isCounted, counted, membersBy, membersOf}
 use Rattle.renewal.specs.Key.{bodyLength, digits as keyDigits, nextText, joined as joinedTexts, texts, held, encode, keyOf, keyOfText}
 use Rattle.renewal.specs.Outcome.{outcome as keyOutcome, keyed}
 use Rattle.tokens.specs.Tiling.{Each}

@@ -1,2 +1,3 @@
 pub mod Tiling
 pub mod Profiles
+pub mod Members
