@@ -149,20 +149,16 @@ unfolding pound
 pound-part t =
     on-cond (Plain t) (eqb (agree pragmaWord t) 6) (record { listed = refl; ends = ends-skip notLf t }) (record { listed = refl; ends = ends-drop (agree pragmaWord t) t })
 
--- ---- marks: the kinds of the whole list of marks are listed
-abbrev marked : List (ℕ × ℕ) → Bool
-marked [] = true
-marked (m ∷ ms) = isPlain (m .1) && marked ms
+-- ---- marks: what holds of the kinds of a whole list of marks, by one computed test, holds of the kind that it has for a character
+pub mark-has : (p : ℕ → Bool) (ms : List (ℕ × ℕ)) (c : ℕ) → all (λ m. p (m .1)) ms ≡ true → eqb (markIn ms c 0) 0 ≡ false → p (markIn ms c 0) ≡ true
+unfolding markIn all
+mark-has p [] c h n = absurd (false≢true (sym n))
+mark-has p (m ∷ ms) c h n =
+    let b = both (p (m .1)) (all (λ m. p (m .1)) ms) h in
+    by-test (eqb c (m .0)) (λ e. rw e (b .0)) (λ e. rw e (mark-has p ms c (b .1) (rw e at n)))
 
-mark-listed : (ms : List (ℕ × ℕ)) (c : ℕ) → marked ms ≡ true → eqb (markIn ms c 0) 0 ≡ false → isPlain (markIn ms c 0) ≡ true
-unfolding markIn
-mark-listed [] c h n = absurd (false≢true (sym n))
-mark-listed (m ∷ ms) c h n =
-    let b = both (isPlain (m .1)) (marked ms) h in
-    by-test (eqb c (m .0)) (λ e. rw e (b .0)) (λ e. rw e (mark-listed ms c (b .1) (rw e at n)))
-
-all-marked : marked marks ≡ true
-unfolding marks
+all-marked : all (λ m. isPlain (m .1)) marks ≡ true
+unfolding marks all
 all-marked = refl
 
 -- ---- a token: a plain kind and no suffix start, or a literal, whose suffix starts behind its first character
@@ -224,7 +220,7 @@ module _ (u : Letters) where
       (on-cond P (eqb c 0x22)
       (literal (quote-listed q) (ends-quoted t) (on-cond (λ (x : List ℕ). Ends x (q .rest)) (q .closed) (ends-identifier (q .rest)) (ends-all (q .rest))))
       (on-cond P (wideEmoji u c) (plainly (record { listed = refl; ends = ends-skip (goesOn u) t })) (plainly (record { listed = refl; ends = ends-all t })))))
-      (λ e. rw e (plainly (record { listed = mark-listed marks c all-marked e; ends = ends-all t }))))))))))
+      (λ e. rw e (plainly (record { listed = mark-has isPlain marks c all-marked e; ends = ends-all t }))))))))))
 
   -- ---- so each token takes at least its first character
   ends-rest : (c : ℕ) (t : List ℕ) (a : Token) → Shape c t a → Ends (a .rest) t

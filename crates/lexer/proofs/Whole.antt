@@ -2,17 +2,17 @@
 -- Assumes nothing.
 use Prim.Native.Nat.{ℕ, suc, _+_, _-_, _*_, _/_, _≤_, _<_}
 use native.Mathlib.Omega.{arith}
-use native.Mathlib.Nat.{zero-add}
 use native.Mathlib.Numerals.{add-one, add-two}
 use mathlib.Core.Path.{_≡_, refl, ap, sym, _∙_}
 use mathlib.Core.Bool.{Bool, true, false, cond, false≢true}
-use mathlib.Core.List.{List, [], _∷_, _++_}
-use lib.ListN.{length, drop, set, length-set}
-use lib.Seq.{sets, sets-eq}
+use mathlib.Core.List.{List, [], _∷_}
+use lib.ListN.{length, set, length-set}
+use lib.Seq.{sets}
 use lib.Dec.{eqb}
 use borrow.Author.Tests.{lt-ltb, le-ltb, eq-eqb, ne-eqb}
 use Rattle.lists.proofs.Bools.{by-test}
 use Rattle.lists.proofs.Cut.{cut-few}
+use Rattle.lists.proofs.Store.{stored-front}
 use Rattle.unicode.specs.Utf8.{next, chars}
 use Rattle.unicode.specs.Text.{bytes, left}
 use Rattle.unicode.proofs.Text.{point-at, left-end, between}
@@ -123,16 +123,13 @@ walk-end {u} {profile} {s} {list₀} {list} {write} {at} {n} w h =
     either false = refl
 
 -- ---- the answer of a text that passed the checks
-stored-words : (words list : List ℕ) {list′ : List ℕ} → list′ ≡ sets list 0 words → length words ≤ length list → list′ ≡ words ++ drop (length words) list
-stored-words words list e l = e ∙ sets-eq words list 0 (omega (arith, l)) ∙ (rw zero-add)
-
 module _ {u : Letters} {profile : ℕ} {s list list′ : List ℕ} {n number also : ℕ} where
   pub stored : Walked u profile s true list n list′ → n ≤ length list / 3 → number ≡ done → also ≡ n → Stored u profile s list number also list′
   stored w l k a =
       let f = length-flat (tokens u profile (chars s)) in
       record {
         answer = rw (← w .count, le-ltb (length list / 3) n l) (record { number-is = k; also-is = a });
-        words = rw k (stored-words (flat (tokens u profile (chars s))) list (w .words) (omega (arith, f, w .count)));
+        words = rw k (stored-front (flat (tokens u profile (chars s))) list (w .words) (omega (arith, f, w .count)));
       }
 
   pub stored-short : Walked u profile s false list n list′ → length list / 3 < n → number ≡ roomTooSmall → also ≡ n → Stored u profile s list number also list′

@@ -1,3 +1,4 @@
+pub mod All
 pub mod Bools
 pub mod Cut
 pub mod Eat

@@ -7,7 +7,7 @@ use mathlib.Core.List.{List, [], _∷_, _++_}
 use lib.ListN.{length}
 use Rattle.unicode.specs.Utf8.{chars, width, Encoded, WellFormed}
 use Rattle.unicode.specs.Text.{bytes}
-use Rattle.unicode.proofs.Valid.{width-some, read-back, well-formed-encoded}
+use Rattle.unicode.proofs.Valid.{width-some, read-back, well-formed-encoded, encode-bytes, read-all}
 use Rattle.lexer.specs.Cut.{Letters, Tok, piece, tokens}
 use Rattle.lexer.specs.Unicode.{unicode}
 use Rattle.lexer.specs.Outcome.{tokensOf}
@@ -17,7 +17,6 @@ use Rattle.locality.proofs.Phases.{two, ends}
 use Rattle.locality.proofs.Swap.{swap-two}
 use Rattle.locality.proofs.Cuts.{Item, texts, Cuts, cuts-text, split, cuts-tokens, total-bytes}
 use Rattle.locality.proofs.Between.{piece-swap, cuts-swap}
-use Rattle.locality.proofs.Written.{encode-bytes, read-all}
 use Rattle.locality.proofs.Clause.{unicode-usual}
 
 module _ (u : Letters) (usual : Usual u) (profile : ℕ) where

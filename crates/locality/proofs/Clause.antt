@@ -15,7 +15,7 @@ use Rattle.unicode.specs.Ranges.{inTable}
 use Rattle.unicode.specs.Ucd.{xidStart, xidContinue}
 use Rattle.unicode.specs.Utf8.{chars, isScalar, encode, encodeAll, WellFormed}
 use Rattle.unicode.specs.Text.{bytes}
-use Rattle.unicode.proofs.Valid.{encoded-well-formed, well-formed-encoded}
+use Rattle.unicode.proofs.Valid.{encoded-well-formed, well-formed-encoded, encode-append, encode-bytes, read-all}
 use Rattle.lexer.specs.Chars.{isWhitespace, whitespace}
 use Rattle.lexer.specs.Cut.{Letters, Tok, advance, piece, tokens}
 use Rattle.lexer.specs.Unicode.{unicode}
@@ -31,7 +31,8 @@ use Rattle.locality.proofs.Counted.{others-count}
 use Rattle.locality.proofs.Cuts.{Item, counted, texts, toks, counted-join, Cuts, none, more, cuts-text, cuts-join, split, whole, total-bytes, Over}
 use Rattle.locality.proofs.White.{white-isnt}
 use Rattle.locality.proofs.Between.{newline}
-use Rattle.locality.proofs.Written.{encode-append, all-append, all-join, encode-bytes, read-all, written, counted-of}
+use Rattle.lists.proofs.All.{all-append, all-join}
+use Rattle.locality.proofs.Written.{written, counted-of}
 
 -- ---- the letters of Unicode are usual
 pub unicode-usual : Usual unicode

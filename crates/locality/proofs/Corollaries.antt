@@ -16,7 +16,7 @@ use Rattle.lists.proofs.Bools.{by-test, both}
 use Rattle.unicode.specs.Utf8.{chars, width, isScalar, encode, encodeAll, WellFormed}
 use Rattle.unicode.specs.Text.{bytes}
 use Rattle.unicode.proofs.Text.{bytes-append}
-use Rattle.unicode.proofs.Valid.{width-some, encoded-well-formed, well-formed-encoded}
+use Rattle.unicode.proofs.Valid.{width-some, encoded-well-formed, well-formed-encoded, encode-append, encode-bytes, read-all}
 use Rattle.unicode.proofs.Ascii.{chars-ascii}
 use Rattle.lexer.specs.Chars.{isWhitespace}
 use Rattle.lexer.specs.Kinds.{blockComment, whitespaceKind}
@@ -30,7 +30,8 @@ use Rattle.locality.specs.Counted.{noneCount, lastIs, isLine, isOpen, is
 use Rattle.locality.proofs.Cuts.{Item, counted, texts, toks, counted-join, Cuts, more, cuts-text, cuts-join, first-cut, split, whole, cut-length, total-bytes, Over}
 use Rattle.locality.proofs.White.{white-uncounted, White, white-none, white-more, all-white, piece-white, kind-white}
 use Rattle.locality.proofs.Between.{Lasts, Closes, newline-end}
-use Rattle.locality.proofs.Written.{encode-append, all-append, all-join, encode-bytes, read-all, written, counted-of}
+use Rattle.lists.proofs.All.{all-append, all-join}
+use Rattle.locality.proofs.Written.{written, counted-of}
 use Rattle.locality.proofs.Clause.{unicode-usual, newline-clause}
 use Rattle.locality.proofs.Ahead.{read-front}
 use Rattle.locality.proofs.Insert.{Free, free-uncounted, insert-chars, insert-white, Fine, crlf-first, crlf-later}

@@ -4,15 +4,16 @@ use Prim.Native.Nat.{ℕ, _≤_}
 use native.Mathlib.Omega.{arith}
 use mathlib.Core.Path.{_≡_, refl, ap, sym, _∙_}
 use mathlib.Core.Bool.{Bool, true, false, cond, not, _&&_, false≢true}
-use mathlib.Core.List.{List, [], _∷_, tail}
+use mathlib.Core.List.{List, _∷_, tail}
 use lib.Dec.{eqb}
 use borrow.Author.Tests.{ne-eqb}
 use Rattle.lists.specs.All.{all}
-use Rattle.lists.proofs.Bools.{by-test, both, on-cond}
+use Rattle.lists.proofs.Bools.{by-test, on-cond}
 use Rattle.unicode.specs.Text.{skip}
 use Rattle.lexer.specs.Chars.{isWhitespace}
 use Rattle.lexer.specs.Kinds.{marks, markIn, int, float, bitStr, str, whitespaceKind}
 use Rattle.lexer.specs.Cut.{Letters, Token, Quote, peek, isDigit, isE, block, slash, digits, exponent, exponentOf, point, fraction, based, number, quoted, quoteKind, isBit, withoutLf, twice, pragmaWord, agree, pound, wideEmoji, name, word, annotated, hardware, advance}
+use Rattle.lexer.proofs.Shapes.{mark-has}
 use Rattle.tokens.specs.Members.{isCounted}
 
 -- numbers and quoted texts have large kinds
@@ -61,20 +62,9 @@ quote-counts q =
     on-cond (λ (k : ℕ). isCounted k ≡ true) (all isBit (cond (q .closed) (q .body) (withoutLf (q .body))))
     (large (bitStr (q .closed) (twice (q .body))) (omega arith)) (large (str (q .closed)) (omega arith))
 
--- the kinds of all marks count, by one computed test
-abbrev marksCount : List (ℕ × ℕ) → Bool
-marksCount [] = true
-marksCount (m ∷ ms) = isCounted (m .1) && marksCount ms
-
-mark-counts : (ms : List (ℕ × ℕ)) (c : ℕ) → marksCount ms ≡ true → eqb (markIn ms c 0) 0 ≡ false → isCounted (markIn ms c 0) ≡ true
-unfolding markIn
-mark-counts [] c h n = absurd (false≢true (sym n))
-mark-counts (m ∷ ms) c h n =
-    let b = both (isCounted (m .1)) (marksCount ms) h in
-    by-test (eqb c (m .0)) (λ e. rw e (b .0)) (λ e. rw e (mark-counts ms c (b .1) (rw e at n)))
-
-all-count : marksCount marks ≡ true
-unfolding marks isCounted
+-- the kinds of all marks count
+all-count : all (λ m. isCounted (m .1)) marks ≡ true
+unfolding marks isCounted all
 all-count = refl
 
 module _ (u : Letters) where
@@ -112,7 +102,7 @@ module _ (u : Letters) where
       (on-cond P (eqb c 0x24) (hardware-counts t)
       (by-test (eqb m 0)
       (λ e. rw e (on-cond P (eqb c 0x22) (quote-counts (quoted t)) (on-cond P (wideEmoji u c) refl refl)))
-      (λ e. rw e (mark-counts marks c all-count e))))))))
+      (λ e. rw e (mark-has isCounted marks c all-count e))))))))
 
   -- ---- only white space is of its kind
   slash-kind : (t : List ℕ) → slash t .0 ≡ whitespaceKind → ⊥

@@ -1,53 +1,24 @@
--- Characters written as bytes, and the counted tokens of a text of bytes by the cuts of its characters.
+-- The counted tokens of a text of bytes, by the cuts of its characters.
 -- Assumes nothing.
 use Prim.Native.Nat.{ℕ}
 use native.Mathlib.Omega.{arith}
 use mathlib.Core.Path.{_≡_, refl, ap, ap₂, sym, _∙_}
-use mathlib.Core.Bool.{Bool, true}
-use mathlib.Core.List.{List, [], _∷_, _++_, append-assoc, append-nil}
-use lib.ListN.{length, drop, length-append}
+use mathlib.Core.Bool.{true}
+use mathlib.Core.List.{List, [], _∷_, _++_, append-nil}
+use lib.ListN.{length, drop}
 use lib.Seq.{take-at, drop-at}
 use Rattle.lists.specs.All.{all}
-use Rattle.lists.proofs.Bools.{by-test, both}
-use Rattle.unicode.specs.Utf8.{chars, isScalar, encode, encodeAll}
+use Rattle.lists.proofs.All.{all-append}
+use Rattle.lists.proofs.Bools.{by-test}
+use Rattle.unicode.specs.Utf8.{chars, isScalar, encodeAll}
 use Rattle.unicode.specs.Text.{bytes}
-use Rattle.unicode.proofs.Encode.{scalar, encode-long}
-use Rattle.unicode.proofs.Text.{chars-nil}
-use Rattle.unicode.proofs.Valid.{read-back}
+use Rattle.unicode.proofs.Valid.{encode-append, encode-bytes, read-all}
 use Rattle.lexer.specs.Cut.{Letters, Tok, tokens}
 use Rattle.lexer.specs.Unicode.{unicode}
 use Rattle.lexer.specs.Outcome.{tokensOf}
 use Rattle.lexer.proofs.Shapes.{tokens-nil}
 use Rattle.tokens.specs.Members.{Member, isCounted, counted as members, membersBy, membersOf}
 use Rattle.locality.proofs.Cuts.{Item, counted, toks, Cuts, none, more, cuts-tokens, cut-length}
-
-pub encode-append : (a b : List ℕ) → encodeAll (a ++ b) ≡ encodeAll a ++ encodeAll b
-unfolding encodeAll
-encode-append [] b = refl
-encode-append (c ∷ a) b = rw (encode-append a b) (sym (append-assoc (encode c) (encodeAll a) (encodeAll b)))
-
-pub all-append : {A : Type 0} (p : A → Bool) (a b : List A) → all p (a ++ b) ≡ true → (all p a ≡ true) × (all p b ≡ true)
-unfolding all
-all-append p [] b h = (refl, h)
-all-append p (x ∷ a) b h =
-    let e = both (p x) (all p (a ++ b)) h in
-    let i = all-append p a b (e .1) in
-    (rw (e .0, i .0), i .1)
-
-pub all-join : {A : Type 0} (p : A → Bool) (a b : List A) → all p a ≡ true → all p b ≡ true → all p (a ++ b) ≡ true
-unfolding all
-all-join p [] b h k = k
-all-join p (x ∷ a) b h k = let e = both (p x) (all p a) h in rw (e .0, all-join p a b (e .1) k)
-
-pub encode-bytes : (t : List ℕ) → all isScalar t ≡ true → length (encodeAll t) ≡ bytes t
-unfolding encodeAll bytes all
-encode-bytes [] h = refl
-encode-bytes (c ∷ t) h =
-    let e = both (isScalar c) (all isScalar t) h in
-    rw (length-append (encode c) (encodeAll t)) (omega (arith, encode-long c (omega (arith, scalar c (e .0) .top)), encode-bytes t (e .1)))
-
-pub read-all : (l : List ℕ) → all isScalar l ≡ true → chars (encodeAll l) ≡ l
-read-all l h = ap chars (sym (append-nil (encodeAll l))) ∙ read-back l [] h ∙ ap (λ (y : List ℕ). l ++ y) chars-nil ∙ append-nil l
 
 -- ---- tokens with their bytes
 abbrev member : Item → Member

@@ -163,6 +163,22 @@ nothing-longer s n l h =
     let m : length (encodeAll (e .of)) ≡ n = ap length (sym (e .same)) ∙ length-take-le n s l in
     omega (arith, rw j at v, m)
 
+-- ---- lists of scalar values, written
+pub encode-append : (a b : List ℕ) → encodeAll (a ++ b) ≡ encodeAll a ++ encodeAll b
+unfolding encodeAll
+encode-append [] b = refl
+encode-append (c ∷ a) b = rw (encode-append a b) (sym (append-assoc (encode c) (encodeAll a) (encodeAll b)))
+
+pub encode-bytes : (t : List ℕ) → all isScalar t ≡ true → length (encodeAll t) ≡ bytes t
+unfolding encodeAll bytes all
+encode-bytes [] h = refl
+encode-bytes (c ∷ t) h =
+    let e = both (isScalar c) (all isScalar t) h in
+    rw (length-append (encode c) (encodeAll t)) (omega (arith, encode-long c (omega (arith, scalar c (e .0) .top)), encode-bytes t (e .1)))
+
+pub read-all : (l : List ℕ) → all isScalar l ≡ true → chars (encodeAll l) ≡ l
+read-all l h = ap chars (sym (append-nil (encodeAll l))) ∙ read-back l [] h ∙ ap (λ (y : List ℕ). l ++ y) chars-nil ∙ append-nil l
+
 -- ---- the walks over what is well-formed
 pub passed-none : {s : List ℕ} {at : ℕ} → at ≤ length s → Passed s at at
 passed-none h = record { after = omega arith; within = h; same = refl }
