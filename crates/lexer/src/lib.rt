@@ -1,5 +1,6 @@
 // The lexer: how OpenQASM 3 text is cut into tokens.
 ghost use mathlib.Core.Path.{_≡_};
+ghost use Prim.Native.Nat.{_<_};
 ghost use Rattle.unicode.specs.Utf8.{chars};
 ghost use Rattle.text.specs.Answer.{Answered};
 ghost use Rattle.lexer.specs.Chars.{isWhitespace, isIdStart, isIdContinue, identBy, isIdent};
@@ -24,12 +25,23 @@ use unicode::properties::is_xid_start;
 use unicode::tables;
 use unicode::utf8::decode;
 
+// The bits 9 to 13 and 32 of a number: one test for all white space of ASCII, since a branch for each kind is guessed wrong where they mix.
+fn is_low_space(c: u32) -> bool
+    requires { ⌜ c < 64 ⌝ }
+    ensures { λ r. ⌜ r ≡ isWhitespace c ⌝ }
+{
+    (0x100003E00u64 >> c) % 2 == 1
+}
+
 // Pattern_White_Space, which never changes.
 pub fn is_whitespace(c: u32) -> bool
     ensures { λ r. ⌜ r ≡ isWhitespace c ⌝ }
 {
+    if c < 64 {
+        return is_low_space(c);
+    }
     match c {
-        0x09..=0x0D | 0x20 | 0x85 | 0x200E..=0x200F | 0x2028..=0x2029 => true,
+        0x85 | 0x200E..=0x200F | 0x2028..=0x2029 => true,
         _ => false,
     }
 }
