@@ -7,5 +7,4 @@ pub mod Whole
 pub mod Tests
 pub mod Order
 pub mod Samples
-pub mod Bytes
 pub mod Unique

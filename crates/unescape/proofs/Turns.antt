@@ -5,13 +5,11 @@ use native.Mathlib.Decide.{decLt}
 use native.Mathlib.Omega.{arith}
 use native.Mathlib.Nat.{zero-add}
 use mathlib.Core.Path.{_≡_, refl, ap, sym, _∙_}
-use mathlib.Core.Bool.{Bool, true, false, not, _&&_}
+use mathlib.Core.Bool.{Bool, true, false}
 use mathlib.Core.List.{List, [], _∷_, _++_}
 use lib.ListN.{length, length-drop, drop}
-use lib.Dec.{eqb, leb}
-use borrow.Author.Tests.{eq-eqb, ne-eqb, leb-true}
+use borrow.Author.Tests.{eq-eqb, ne-eqb}
 use Rattle.lists.specs.Eat.{eat}
-use Rattle.lists.proofs.Bools.{both}
 use Rattle.unicode.specs.Ranges.{inTable}
 use Rattle.unicode.specs.Ucd.{whiteSpace}
 use Rattle.unicode.specs.Properties.{isWhiteSpace}
@@ -21,34 +19,32 @@ use Rattle.unescape.specs.declared.escapes.Escape.{Escape}
 use Rattle.unescape.specs.declared.escapes.Escape.the-variants.{Value, Error}
 use Rattle.unescape.specs.declared.bodies.Step.{Step}
 use Rattle.unescape.specs.Modes.{isRaw, charactersShouldBeAscii}
-use Rattle.unescape.specs.Errors.{Outcome, char, error, number, isGiven}
+use Rattle.unescape.specs.Errors.{Outcome, char, error, number}
 use Rattle.unescape.specs.Escapes.{escape, asciiCheck}
 use Rattle.unescape.specs.Bodies.{Item, alone, isEscapeOnly, oneChar, charOrByte, strChar, rawChar, isSkipped, sawLf, one, unskipped, skipped, slashed, strCommon, rawStr, turn}
 use Rattle.unescape.specs.Steps.{resultOf, endOf, errorOf, escapeAt, stepOf, given, Scanned, Stepped, Behind, onFirst}
 use Rattle.unescape.proofs.Scans.{result-at, end-at, scanned-as, scanned-end, scanned-same, scanned-stay}
-use Rattle.unescape.proofs.Fair.{escape-fair, ascii-given, str-given, char-or-byte-fair}
+use Rattle.unescape.proofs.Fair.{fault, Told, Any, allows-any, escape-fair, ascii-told, str-told, char-told}
 
 -- ---- the errors that are given
-given-few : (r : Escape) → isGiven (resultOf r) ≡ true → errorOf r ≤ 22
-given-few (Value c end) h = omega arith
-given-few (Error e end) h =
-    let p = both (leb 1 e) (leb e 22 && not (eqb e 10)) h .1 in
-    leb-true e 22 (both (leb e 22) (not (eqb e 10)) p .0)
+told-few : (r : Escape) → Told Any (resultOf r) → errorOf r ≤ 22
+told-few (Value c end) h = omega arith
+told-few (Error e end) h = omega (arith, fault e h .few)
 
 pub escape-few : (isByte : Bool) {s : List ℕ} {at : ℕ} {r : Escape} → Scanned (escape isByte) s at r → errorOf r ≤ 22
-escape-few isByte {s} {at} {r} q = given-few r (rw (q .what) (escape-fair isByte (left s at) .given))
+escape-few isByte {s} {at} {r} q = told-few r (rw (q .what) (escape-fair (allows-any isByte) (left s at) .told))
 
 pub char-or-byte-few : (isByte : Bool) {s : List ℕ} {at : ℕ} {r : Escape} → Scanned (charOrByte isByte) s at r → errorOf r ≤ 22
-char-or-byte-few isByte {s} {at} {r} q = given-few r (rw (q .what) (char-or-byte-fair isByte (left s at) .given))
+char-or-byte-few isByte {s} {at} {r} q = told-few r (rw (q .what) (char-told (allows-any isByte) (left s at) (λ e c. tt)))
 
-at-few : (o : Outcome) (end : ℕ) {r : Escape} → isGiven o ≡ true → r ≡ escapeAt o end → errorOf r ≤ 22
-at-few o end h e = rw e (given-few (escapeAt o end) (rw (result-at o end) h))
+at-few : (o : Outcome) (end : ℕ) {r : Escape} → Told Any o → r ≡ escapeAt o end → errorOf r ≤ 22
+at-few o end h e = rw e (told-few (escapeAt o end) (rw (result-at o end) h))
 
 pub ascii-few : (isByte : Bool) (c end : ℕ) {r : Escape} → r ≡ escapeAt (asciiCheck isByte c) end → errorOf r ≤ 22
-ascii-few isByte c end e = at-few (asciiCheck isByte c) end (ascii-given isByte c) e
+ascii-few isByte c end e = at-few (asciiCheck isByte c) end (ascii-told (allows-any isByte) c (λ e. tt)) e
 
 pub str-few : (isByte : Bool) (c end : ℕ) {r : Escape} → r ≡ escapeAt (strChar isByte c) end → errorOf r ≤ 22
-str-few isByte c end e = at-few (strChar isByte c) end (str-given isByte c) e
+str-few isByte c end e = at-few (strChar isByte c) end (str-told (allows-any isByte) c (λ e. tt)) e
 
 -- ---- the place of what is left
 pub place-of : (s : List ℕ) (at : ℕ) → at ≤ length s → length s - bytes (left s at) ≡ at

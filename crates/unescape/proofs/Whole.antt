@@ -32,7 +32,7 @@ use Rattle.unescape.specs.Escapes.{escape}
 use Rattle.unescape.specs.Bodies.{Item, charOrByte, strChar, rawChar, isSkipped, sawLf, item, one, unskipped, skipped, slashed, strCommon, rawStr, turn, joined, turns, items, itemsOf, flat}
 use Rattle.unescape.specs.Steps.{endOf, stepOf, given, Scanned, onFirst, Stepped, wordsOf, Walked, Stored}
 use Rattle.unescape.specs.Outcome.{outcome, listed, Unescaped, part, single}
-use Rattle.unescape.proofs.Fair.{escape-fair}
+use Rattle.unescape.proofs.Fair.{allows-any, escape-fair}
 use Rattle.unescape.proofs.Turns.{place-of}
 
 -- ---- words
@@ -95,11 +95,11 @@ skipped-turned size c x from t (b, l) e =
 
 slashed-turned : (size c : ℕ) (isByte : Bool) (from t : List ℕ) → Turned c t (slashed size isByte from t)
 unfolding slashed
-slashed-turned size c isByte from [] = one-turned size c from [] (escape isByte []) (escape-fair isByte [] .ends)
+slashed-turned size c isByte from [] = one-turned size c from [] (escape isByte []) (escape-fair (allows-any isByte) [] .ends)
 slashed-turned size c isByte from (x ∷ t) =
     on-cond (Turned c (x ∷ t)) (eqb x 0x0A)
     (skipped-turned size c x from t (eat isSkipped sawLf false t) (ends-eat isSkipped sawLf false t))
-    (one-turned size c from (x ∷ t) (escape isByte (x ∷ t)) (escape-fair isByte (x ∷ t) .ends))
+    (one-turned size c from (x ∷ t) (escape isByte (x ∷ t)) (escape-fair (allows-any isByte) (x ∷ t) .ends))
 
 pub turned : (size mode c : ℕ) (t : List ℕ) → Turned c t (turn size mode c t)
 unfolding turn rawStr strCommon

@@ -1,8 +1,8 @@
 -- The errors and warnings, by their places in `EscapeError`, from 1; and what an item says: a character, or an error.
 -- Assumes nothing.
-use mathlib.Core.Bool.{Bool, true, cond, not, _&&_}
+use mathlib.Core.Bool.{cond, _&&_}
 use Prim.Native.Nat.{ℕ, _+_}
-use lib.Dec.{eqb, leb, ltb}
+use lib.Dec.{leb, ltb}
 use Rattle.text.specs.Answer.{done, unknownSelector}
 
 abbrev pub zeroChars : ℕ
@@ -86,9 +86,3 @@ pub data Outcome : Type 0 where
 abbrev pub number : Outcome → ℕ
 number (char c) = c
 number (error e) = 1114112 + e
-
--- an outcome that is given: of the errors, OutOfRangeHexEscape never is
-abbrev pub isGiven : Outcome → Bool
-isGiven (char c) = true
-isGiven (error e) =
-    leb zeroChars e && (leb e multipleSkippedLinesWarning && not (eqb e outOfRangeHexEscape))

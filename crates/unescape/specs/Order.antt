@@ -1,28 +1,49 @@
 -- What may be relied on of the items of a body, in the order in which they are listed.
 -- Assumes nothing.
-use Prim.Native.Nat.{ℕ, _≤_, _<_}
+use Prim.Native.Nat.{ℕ, _+_, _-_, _≤_, _<_}
 use mathlib.Core.Path.{_≡_}
-use mathlib.Core.Bool.{Bool, true, cond, _||_}
+use mathlib.Core.Bool.{Bool, true, not, _&&_, _||_}
 use mathlib.Core.List.{List, [], _∷_}
-use lib.Dec.{eqb}
-use Rattle.unescape.specs.Errors.{Outcome, error, number, isGiven, unskippedWhitespaceWarning, multipleSkippedLinesWarning}
+use lib.Dec.{eqb, leb}
+use Rattle.unicode.specs.Utf8.{isScalar, width}
+use Rattle.unicode.specs.Properties.{isWhiteSpace}
+use Rattle.unescape.specs.Modes.{charactersShouldBeAscii}
+use Rattle.unescape.specs.Errors.{error, number, zeroChars, outOfRangeHexEscape, unskippedWhitespaceWarning, multipleSkippedLinesWarning}
+use Rattle.unescape.specs.Escapes.{asciiCheck}
 use Rattle.unescape.specs.Bodies.{Item}
 
--- an item says a character, or an error that is given. A character's number is not bounded here, so this alone does not shut a number out
-pub record Says (i : Item) : Type 0 where
-  pub of : Outcome
-  pub number-is : i .outcome ≡ number of
-  pub given : isGiven of ≡ true
+-- ---- outcomes
+-- the errors and warnings that are given: all but OutOfRangeHexEscape
+abbrev pub isGiven : ℕ → Bool
+isGiven e = leb zeroChars e && (leb e multipleSkippedLinesWarning && not (eqb e outOfRangeHexEscape))
 
-abbrev pub isWarning : ℕ → Bool
-isWarning o = eqb o (number (error unskippedWhitespaceWarning)) || eqb o (number (error multipleSkippedLinesWarning))
+-- the number of an outcome that is given: a scalar value, or 1,114,112 plus the place of such an error
+abbrev pub isOutcome : ℕ → Bool
+isOutcome n = isScalar n || isGiven (n - 1114112)
 
--- where the item behind this one may start: at its end; where this one is a warning, at its start
-abbrev pub mayStart : Item → ℕ
-mayStart i = cond (isWarning (i .outcome)) (i .start) (i .end)
+abbrev pub warning21 : ℕ
+warning21 = number (error unskippedWhitespaceWarning)
 
--- items of a body of so many bytes, none of which starts before `from` or ends before `to`: each lies within the body and is not
--- empty, neither starts nor ends before the one before it, and starts at or behind its end, unless that one is a warning
-pub data InOrder (size : ℕ) : ℕ → ℕ → List Item → Type 0 where
-  none : {from to : ℕ} → InOrder size from to []
-  next : {from to : ℕ} {l : List Item} (i : Item) → from ≤ i .start → to ≤ i .end → i .start < i .end → i .end ≤ size → Says i → InOrder size (mayStart i) (i .end) l → InOrder size from to (i ∷ l)
+abbrev pub warning22 : ℕ
+warning22 = number (error multipleSkippedLinesWarning)
+
+-- ---- one item of a body of so many bytes: it lies within the body and is not empty, and its outcome is one that is given
+pub record Lies (size : ℕ) (i : Item) : Type 0 where
+  pub some : i .start < i .end
+  pub within : i .end ≤ size
+  pub given : isOutcome (i .outcome) ≡ true
+
+-- ---- an item i, and the item j directly behind it
+pub data Follows (mode : ℕ) (i j : Item) : Type 0 where
+  -- i is not warning 21, and j starts at or behind its end
+  apart : (i .outcome ≡ warning21 → ⊥) → i .end ≤ j .start → Follows mode i j
+  -- i is warning 22 and j the warning 21 of the same skip: they share their start, and j ends behind i
+  shared : i .outcome ≡ warning22 → j .outcome ≡ warning21 → j .start ≡ i .start → i .end < j .end → Follows mode i j
+  -- i is warning 21 and ends with a character c, of White_Space, and j is what c gives: the item of c alone
+  about : (c : ℕ) → i .outcome ≡ warning21 → isWhiteSpace c ≡ true → i .start < j .start → j .start + width c ≡ j .end → j .end ≡ i .end → j .outcome ≡ number (asciiCheck (charactersShouldBeAscii mode) c) → Follows mode i j
+
+-- ---- all items: each lies so, and each two neighbours stand so; warning 21 is never the last
+pub data InOrder (mode size : ℕ) : List Item → Type 0 where
+  none : InOrder mode size []
+  last : (i : Item) → Lies size i → (i .outcome ≡ warning21 → ⊥) → InOrder mode size (i ∷ [])
+  next : (i j : Item) (l : List Item) → Lies size i → Follows mode i j → InOrder mode size (j ∷ l) → InOrder mode size (i ∷ j ∷ l)
