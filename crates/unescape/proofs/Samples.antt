@@ -1,9 +1,9 @@
 -- Worked examples, computed: the scope's two starred ones first; and programs that the promises rule out.
 -- Assumes nothing.
-use Prim.Native.Nat.{ℕ}
+use Prim.Native.Nat.{ℕ, _%_}
 use native.Mathlib.Omega.{arith}
 use mathlib.Core.Path.{_≡_, refl}
-use mathlib.Core.Bool.{true}
+use mathlib.Core.Bool.{true, false}
 use mathlib.Core.List.{List, [], _∷_}
 use Rattle.lists.specs.Cut.{cut, pieces}
 use Rattle.lists.specs.Eat.{eat}
@@ -11,12 +11,17 @@ use Rattle.unicode.specs.Ranges.{inTable}
 use Rattle.unicode.specs.Utf8.{table, behind, begins, joined as joinedBits, readBy, first, next, chars, width, isScalar, goodBytes, validUpTo}
 use Rattle.unicode.specs.Text.{bytes}
 use Rattle.unicode.specs.Ucd.{whiteSpace}
-use Rattle.text.specs.Answer.{Answered, done, roomTooSmall, checkText}
-use Rattle.unescape.specs.Modes.{isSingle, isRaw, charactersShouldBeAscii, strMode}
-use Rattle.unescape.specs.Errors.{error, number, loneSurrogateUnicodeEscape, unicodeEscapeInByte, unskippedWhitespaceWarning}
+use Rattle.text.specs.Answer.{Answered, done, unknownSelector, roomTooSmall, checkText}
+use Rattle.unescape.specs.Modes.{charMode, strMode, byteStrMode, rawByteStrMode, isSingle, inDoubleQuotes, charactersShouldBeAscii, isUnicodeEscapeDisallowed, hasPrefix, isRaw, testedMode}
+use Rattle.unescape.specs.Errors.{fatal, error, number, loneSurrogateUnicodeEscape, unicodeEscapeInByte, unskippedWhitespaceWarning}
 use Rattle.unescape.specs.Escapes.{toDigit, hexDigit, hexEscape, firstDigit, moreDigits, codePoint, closing, braced, unicodeEscape, simple, escape, asciiCheck}
 use Rattle.unescape.specs.Bodies.{alone, oneChar, charOrByte, strChar, rawChar, unskipped, skipped, slashed, strCommon, rawStr, turn, joined, turns, items, itemsOf, flat}
-use Rattle.unescape.specs.Outcome.{outcome, listed, Unescaped, single}
+use Rattle.unescape.specs.Outcome.{outcome, listed, Unescaped, part, single}
+
+-- to unfold this is to unfold all that the examples compute with
+definitions : ℕ
+unfolding cut pieces eat inTable table behind begins joinedBits readBy first next chars width isScalar goodBytes validUpTo bytes whiteSpace checkText isSingle isRaw charactersShouldBeAscii toDigit hexDigit hexEscape firstDigit moreDigits codePoint closing braced unicodeEscape simple escape asciiCheck alone oneChar charOrByte strChar rawChar unskipped skipped slashed strCommon rawStr turn joined turns items itemsOf flat inDoubleQuotes hasPrefix outcome listed single
+definitions = 0
 
 -- a mode, a body, and the words of its items
 pub data Sample : Type 0 where
@@ -57,33 +62,77 @@ told [] = []
 told (sample mode body words ∷ t) = words ∷ told t
 
 pub samples-hold : given samples ≡ told samples
-unfolding samples given told cut pieces eat inTable table behind begins joinedBits readBy first next chars width isScalar goodBytes validUpTo bytes whiteSpace checkText isSingle isRaw charactersShouldBeAscii toDigit hexDigit hexEscape firstDigit moreDigits codePoint closing braced unicodeEscape simple escape asciiCheck alone oneChar charOrByte strChar rawChar unskipped skipped slashed strCommon rawStr turn joined turns items itemsOf flat
+unfolding samples given told definitions
 samples-hold = refl
 
--- ---- a surrogate told before the error of byte mode
+-- ---- programs that the promises rule out: at one call each, what the program would answer or leave is not allowed
+-- a surrogate told before the error of byte mode
 pub rules-out-surrogate-first : Answered (single true (0x5C ∷ 0x75 ∷ 0x7B ∷ 0x44 ∷ 0x38 ∷ 0x30 ∷ 0x30 ∷ 0x7D ∷ [])) done (number (error loneSurrogateUnicodeEscape)) → ⊥
-unfolding single cut pieces eat inTable table behind begins joinedBits readBy first next chars width isScalar goodBytes validUpTo bytes whiteSpace checkText isSingle isRaw charactersShouldBeAscii toDigit hexDigit hexEscape firstDigit moreDigits codePoint closing braced unicodeEscape simple escape asciiCheck alone oneChar charOrByte strChar rawChar unskipped skipped slashed strCommon rawStr turn joined turns items itemsOf flat
+unfolding definitions
 rules-out-surrogate-first a = let z : _≡_ {A = ℕ} 1114129 1114131 = a .also-is in omega arith
 
 -- Overlong told behind it
 pub rules-out-overlong-late : Answered (single true (0x5C ∷ 0x75 ∷ 0x7B ∷ 0x31 ∷ 0x32 ∷ 0x33 ∷ 0x34 ∷ 0x35 ∷ 0x36 ∷ 0x37 ∷ 0x7D ∷ [])) done (number (error unicodeEscapeInByte)) → ⊥
-unfolding single cut pieces eat inTable table behind begins joinedBits readBy first next chars width isScalar goodBytes validUpTo bytes whiteSpace checkText isSingle isRaw charactersShouldBeAscii toDigit hexDigit hexEscape firstDigit moreDigits codePoint closing braced unicodeEscape simple escape asciiCheck alone oneChar charOrByte strChar rawChar unskipped skipped slashed strCommon rawStr turn joined turns items itemsOf flat
+unfolding definitions
 rules-out-overlong-late a = let z : _≡_ {A = ℕ} 1114131 1114128 = a .also-is in omega arith
 
 -- warning 21 without its character
 pub rules-out-short-warning : {rest : List ℕ} → Unescaped (0x5C ∷ 0x0A ∷ 0xC2 ∷ 0xA0 ∷ []) strMode (0 ∷ 0 ∷ 0 ∷ 0 ∷ 0 ∷ 0 ∷ []) done 2 (0 ∷ 2 ∷ number (error unskippedWhitespaceWarning) ∷ rest) → ⊥
-unfolding outcome listed cut pieces eat inTable table behind begins joinedBits readBy first next chars width isScalar goodBytes validUpTo bytes whiteSpace checkText isSingle isRaw charactersShouldBeAscii toDigit hexDigit hexEscape firstDigit moreDigits codePoint closing braced unicodeEscape simple escape asciiCheck alone oneChar charOrByte strChar rawChar unskipped skipped slashed strCommon rawStr turn joined turns items itemsOf flat
+unfolding definitions
 rules-out-short-warning u = let z : _≡_ {A = ℕ} 2 4 = cc (u .words) in omega arith
 
 -- the last item lost, a refusal that writes, and a need off by one: of `ab`
 pub rules-out-lost-item : {list : List ℕ} → Unescaped (0x61 ∷ 0x62 ∷ []) strMode (0 ∷ 0 ∷ 0 ∷ 0 ∷ 0 ∷ 0 ∷ []) done 1 list → ⊥
-unfolding outcome listed cut pieces eat inTable table behind begins joinedBits readBy first next chars width isScalar goodBytes validUpTo bytes whiteSpace checkText isSingle isRaw charactersShouldBeAscii toDigit hexDigit hexEscape firstDigit moreDigits codePoint closing braced unicodeEscape simple escape asciiCheck alone oneChar charOrByte strChar rawChar unskipped skipped slashed strCommon rawStr turn joined turns items itemsOf flat
+unfolding definitions
 rules-out-lost-item u = let z : _≡_ {A = ℕ} 1 2 = u .answer .also-is in omega arith
 
 pub rules-out-writing-refusal : Unescaped (0x61 ∷ 0x62 ∷ []) strMode (0 ∷ 0 ∷ 0 ∷ []) roomTooSmall 2 (0 ∷ 1 ∷ 0x61 ∷ []) → ⊥
-unfolding outcome listed cut pieces eat inTable table behind begins joinedBits readBy first next chars width isScalar goodBytes validUpTo bytes whiteSpace checkText isSingle isRaw charactersShouldBeAscii toDigit hexDigit hexEscape firstDigit moreDigits codePoint closing braced unicodeEscape simple escape asciiCheck alone oneChar charOrByte strChar rawChar unskipped skipped slashed strCommon rawStr turn joined turns items itemsOf flat
+unfolding definitions
 rules-out-writing-refusal u = let z : _≡_ {A = ℕ} 1 0 = cc (u .words) in omega arith
 
 pub rules-out-other-need : Unescaped (0x61 ∷ 0x62 ∷ []) strMode [] roomTooSmall 3 [] → ⊥
-unfolding outcome listed cut pieces eat inTable table behind begins joinedBits readBy first next chars width isScalar goodBytes validUpTo bytes whiteSpace checkText isSingle isRaw charactersShouldBeAscii toDigit hexDigit hexEscape firstDigit moreDigits codePoint closing braced unicodeEscape simple escape asciiCheck alone oneChar charOrByte strChar rawChar unskipped skipped slashed strCommon rawStr turn joined turns items itemsOf flat
+unfolding definitions
 rules-out-other-need u = let z : _≡_ {A = ℕ} 3 2 = u .answer .also-is in omega arith
+
+-- spans counted from the text's first byte, and a part that starts behind its end refused: of `ab`
+pub rules-out-spans-in-text : Unescaped (part (0x61 ∷ 0x62 ∷ []) 1 2) strMode (0 ∷ 0 ∷ 0 ∷ []) done 1 (1 ∷ 2 ∷ 0x62 ∷ []) → ⊥
+unfolding definitions
+rules-out-spans-in-text u = let z : _≡_ {A = ℕ} 1 0 = cc (u .words) in omega arith
+
+pub rules-out-part-refused : {also : ℕ} {list : List ℕ} → Unescaped (part (0x61 ∷ 0x62 ∷ []) 5 1) strMode [] unknownSelector also list → ⊥
+unfolding definitions
+rules-out-part-refused u = let z : _≡_ {A = ℕ} 1 0 = u .answer .number-is in omega arith
+
+-- the first of two characters taken for the one, and é for a byte
+pub rules-out-first-of-two : Answered (single false (0x61 ∷ 0x62 ∷ [])) done 0x61 → ⊥
+unfolding definitions
+rules-out-first-of-two a = let z : _≡_ {A = ℕ} 0x61 1114114 = a .also-is in omega arith
+
+pub rules-out-wide-byte : Answered (single true (0xC3 ∷ 0xA9 ∷ [])) done 0xE9 → ⊥
+unfolding definitions
+rules-out-wide-byte a = let z : _≡_ {A = ℕ} 0xE9 1114132 = a .also-is in omega arith
+
+-- the greatest byte for what is no byte
+pub rules-out-saturating : 255 ≡ 256 % 256 → ⊥
+rules-out-saturating e = omega arith
+
+-- Char in double quotes; any character in RawByteStr; \u{..} in ByteStr; the r of `br` in the prefix
+pub rules-out-char-in-double-quotes : Answered (testedMode inDoubleQuotes charMode) done 1 → ⊥
+unfolding definitions
+rules-out-char-in-double-quotes a = let z : _≡_ {A = ℕ} 1 0 = a .also-is in omega arith
+
+pub rules-out-raw-not-ascii : Answered (testedMode charactersShouldBeAscii rawByteStrMode) done 0 → ⊥
+unfolding definitions
+rules-out-raw-not-ascii a = let z : _≡_ {A = ℕ} 0 1 = a .also-is in omega arith
+
+pub rules-out-unicode-in-bytes : Answered (testedMode isUnicodeEscapeDisallowed byteStrMode) done 0 → ⊥
+unfolding definitions
+rules-out-unicode-in-bytes a = let z : _≡_ {A = ℕ} 0 1 = a .also-is in omega arith
+
+pub rules-out-raw-prefix : Answered (testedMode hasPrefix rawByteStrMode) done 2 → ⊥
+unfolding definitions
+rules-out-raw-prefix a = let z : _≡_ {A = ℕ} 2 1 = a .also-is in omega arith
+
+-- errors counted from 0
+pub rules-out-error-0 : {also : ℕ} → Answered (fatal 0) done also → ⊥
+rules-out-error-0 a = let z : _≡_ {A = ℕ} 0 1 = a .number-is in omega arith
