@@ -39,10 +39,11 @@ pub data Follows (mode : ℕ) (i j : Item) : Type 0 where
   apart : (i .outcome ≡ warning21 → ⊥) → i .end ≤ j .start → Follows mode i j
   -- i is warning 22 and j the warning 21 of the same skip: they share their start, and j ends behind i
   shared : i .outcome ≡ warning22 → j .outcome ≡ warning21 → j .start ≡ i .start → i .end < j .end → Follows mode i j
-  -- i is warning 21 and ends with a character c, of White_Space, and j is what c gives: the item of c alone
+  -- i is warning 21, and j is about the character of White_Space with which i ends: it has that character's bytes, and the outcome of a
+  -- character that stands for itself
   about : (c : ℕ) → i .outcome ≡ warning21 → isWhiteSpace c ≡ true → i .start < j .start → j .start + width c ≡ j .end → j .end ≡ i .end → j .outcome ≡ number (asciiCheck (charactersShouldBeAscii mode) c) → Follows mode i j
 
--- ---- all items: each lies so, and each two neighbours stand so; warning 21 is never the last
+-- ---- all items of a body: each lies so, each two neighbours stand so, and the last is not warning 21
 pub data InOrder (mode size : ℕ) : List Item → Type 0 where
   none : InOrder mode size []
   last : (i : Item) → Lies size i → (i .outcome ≡ warning21 → ⊥) → InOrder mode size (i ∷ [])

@@ -28,7 +28,7 @@ pub record Unescaped (s : List ℕ) (mode : ℕ) (list : List ℕ) (number also 
   pub answer : Answered (outcome s mode (length list)) number also
   pub words : list′ ≡ listed s mode list
 
--- ---- unescape_part: the part of a text from `from` to `to`, both brought down to what is there
+-- ---- unescape_part: the part of a text from `from` up to `to`; `to` is first brought down to the text's length, then `from` to `to`
 abbrev pub part : List ℕ → ℕ → ℕ → List ℕ
 part s from to =
     let end = min to (length s) in

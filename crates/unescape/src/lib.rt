@@ -64,7 +64,7 @@ pub fn unescape_literal(body: &[u8], mode: u32, list: &mut [u32]) -> Answer
     list::store(body, mode, list)
 }
 
-// The same for a body inside its text, from `from` up to `to`, each brought down to what is there.
+// The same for a body inside its text, from `from` up to `to`: `to` is first brought down to the text's length, then `from` to `to`.
 pub fn unescape_part(text: &[u8], from: usize, to: usize, mode: u32, list: &mut [u32]) -> Answer
     ensures { λ r. ⌜ Unescaped (part (now (text .entry)) from to) mode (now (list .entry)) (r .number) (r .also) (now (list .exit)) ⌝ }
 {
