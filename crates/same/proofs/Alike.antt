@@ -1,18 +1,19 @@
 -- Members are alike exactly when they are equal; and how far two lists agree.
 -- Assumes nothing.
-use Prim.Native.Nat.{ℕ, zero, suc, _+_, _≤_, _<_}
+use Prim.Native.Nat.{ℕ, suc, _+_, _-_, _≤_, _<_}
 use native.Mathlib.Omega.{arith}
 use native.Mathlib.Numerals.{add-one}
 use mathlib.Core.Path.{_≡_, refl, ap, sym, _∙_}
 use mathlib.Core.Bool.{Bool, true, false, _&&_, false≢true}
 use mathlib.Core.List.{List, [], _∷_}
 use lib.Dec.{eqb}
-use lib.ListN.{length, take, drop, getD, drop-of-length-le}
-use lib.Seq.{drop-cons}
+use lib.ListN.{length, take, drop, getD, length-drop, drop-of-length-le}
+use lib.Seq.{drop-cons, length-take-le, take-length}
 use borrow.Author.Tests.{eqb-true, eqb-false, eq-eqb, ne-eqb}
 use Rattle.lists.proofs.Bools.{by-test, both, and-false}
 use Rattle.renewal.specs.Members.{Member}
 use Rattle.same.specs.Compare.{sameBytes, alike, agree}
+use Rattle.same.specs.Steps.{Within, memberAt}
 
 -- ---- bytes
 pub bytes-equal : (s t : List ℕ) → sameBytes s t ≡ true → s ≡ t
@@ -57,23 +58,33 @@ unfolding alike
 alike-self m = rw (eq-eqb (m .kind) (m .kind) refl, eq-eqb (m .len) (m .len) refl, eq-eqb (m .suff) (m .suff) refl) (bytes-same (m .bytes))
 
 -- ---- as `are_alike` tests them
-module _ (m m′ : Member) where
-  pub alike-kind : (m .kind ≡ m′ .kind → ⊥) → alike m m′ ≡ false
+module _ (m m′ : Member) {r : Bool} where
+  pub alike-kind : (m .kind ≡ m′ .kind → ⊥) → r ≡ false → r ≡ alike m m′
   unfolding alike
-  alike-kind n = rw (ne-eqb _ _ n)
+  alike-kind n e = rw (ne-eqb _ _ n) e
 
-  pub alike-suff : (m .suff ≡ m′ .suff → ⊥) → alike m m′ ≡ false
+  pub alike-suff : (m .suff ≡ m′ .suff → ⊥) → r ≡ false → r ≡ alike m m′
   unfolding alike
-  alike-suff n = rw (ne-eqb _ _ n, and-false, and-false)
+  alike-suff n e = rw (ne-eqb _ _ n, and-false, and-false) e
 
-  pub alike-bytes : m .kind ≡ m′ .kind → m .suff ≡ m′ .suff → length (m .bytes) ≡ m .len → length (m′ .bytes) ≡ m′ .len → alike m m′ ≡ sameBytes (m .bytes) (m′ .bytes)
-  unfolding alike
-  alike-bytes k u l l′ =
-      by-test (sameBytes (m .bytes) (m′ .bytes))
-      (λ e.
-      let n : m .len ≡ m′ .len = sym l ∙ ap length (bytes-equal (m .bytes) (m′ .bytes) e) ∙ l′ in
-      rw (eq-eqb _ _ k, eq-eqb _ _ u, eq-eqb _ _ n) refl)
-      (λ e. rw (e, and-false, and-false, and-false) refl)
+alike-by : (m m′ : Member) → m .kind ≡ m′ .kind → m .suff ≡ m′ .suff → length (m .bytes) ≡ m .len → length (m′ .bytes) ≡ m′ .len → alike m m′ ≡ sameBytes (m .bytes) (m′ .bytes)
+unfolding alike
+alike-by m m′ k u l l′ =
+    by-test (sameBytes (m .bytes) (m′ .bytes))
+    (λ e.
+    let n : m .len ≡ m′ .len = sym l ∙ ap length (bytes-equal (m .bytes) (m′ .bytes) e) ∙ l′ in
+    rw (eq-eqb _ _ k, eq-eqb _ _ u, eq-eqb _ _ n) refl)
+    (λ e. rw (e, and-false, and-false, and-false) refl)
+
+bytes-at : {s : List ℕ} {a m e : ℕ} → Within s a m e → length (take (e - a) (drop a s)) ≡ e - a
+bytes-at {s} {a} {m} {e} w = length-take-le (e - a) (drop a s) (omega (arith, w .before-end, w .within, length-drop a s))
+
+pub alike-bytes : (s s′ : List ℕ) (k a m e k′ a′ m′ e′ : ℕ) {r : Bool} → k ≡ k′ → m - a ≡ m′ - a′ → Within s a m e → Within s′ a′ m′ e′ →
+    r ≡ sameBytes (take (e - a) (drop a s)) (take (e′ - a′) (drop a′ s′)) → r ≡ alike (memberAt s k a m e) (memberAt s′ k′ a′ m′ e′)
+alike-bytes s s′ k a m e k′ a′ m′ e′ p q w w′ h =
+    h ∙ sym (alike-by (memberAt s k a m e) (memberAt s′ k′ a′ m′ e′) p q (bytes-at w) (bytes-at w′))
+
+pub ruleset memberwise = (alike-kind, alike-suff, alike-bytes)
 
 -- ---- lists
 pub agree-more : (m m′ : Member) (l l′ : List Member) → alike m m′ ≡ true → agree (m ∷ l) (m′ ∷ l′) ≡ suc (agree l l′)
@@ -96,6 +107,44 @@ agree-take (m ∷ l) (m′ ∷ l′) =
     let t = agree-take l l′ in
     rw (agree-more m m′ l l′ e) (cc))
     (λ e. rw (agree-stop m m′ l l′ e) refl)
+
+pub agree-within : (l l′ : List Member) → (agree l l′ ≤ length l) × (agree l l′ ≤ length l′)
+unfolding agree
+agree-within [] l′ = (omega arith, omega arith)
+agree-within (m ∷ l) [] = (omega arith, omega arith)
+agree-within (m ∷ l) (m′ ∷ l′) =
+    by-test (alike m m′)
+    (λ e.
+    let t = agree-within l l′ in
+    rw (agree-more m m′ l l′ e) (omega (arith, t .0), omega (arith, t .1)))
+    (λ e. rw (agree-stop m m′ l l′ e) (omega arith, omega arith))
+
+pub agree-differ : (l l′ : List Member) (d : Member) → agree l l′ < length l → agree l l′ < length l′ → getD l (agree l l′) d ≡ getD l′ (agree l l′) d → ⊥
+unfolding agree
+agree-differ [] l′ d h h′ e = omega arith
+agree-differ (m ∷ l) [] d h h′ e = omega arith
+agree-differ (m ∷ l) (m′ ∷ l′) d h h′ e =
+    by-test (alike m m′)
+    (λ t.
+    let a : suc (agree l l′) < suc (length l) = rw (agree-more m m′ l l′ t) at h in
+    let a′ : suc (agree l l′) < suc (length l′) = rw (agree-more m m′ l l′ t) at h′ in
+    agree-differ l l′ d (omega arith) (omega arith) (rw (agree-more m m′ l l′ t) at e))
+    (λ t.
+    let k : m ≡ m′ = rw (agree-stop m m′ l l′ t) at e in
+    let z : alike m m′ ≡ true = rw k (alike-self m′) in
+    false≢true (sym t ∙ z))
+
+-- all agree exactly when the lists are equal
+pub agree-all : (l l′ : List Member) → agree l l′ ≡ length l → agree l l′ ≡ length l′ → l ≡ l′
+agree-all l l′ e e′ =
+    let t : take (length l) l ≡ take (length l) l′ = rw e at (agree-take l l′) in
+    let n : length l ≡ length l′ = sym e ∙ e′ in
+    sym (take-length l) ∙ t ∙ rw n (take-length l′)
+
+pub agree-self : (l : List Member) → agree l l ≡ length l
+unfolding agree
+agree-self [] = refl
+agree-self (m ∷ l) = agree-more m m l l (alike-self m) ∙ ap suc (agree-self l)
 
 -- ---- byte by byte: to go on from here comes to the same
 pub record Comparing (a b : List ℕ) (i : ℕ) : Type 0 where

@@ -1,2 +1,4 @@
 pub mod Alike
 pub mod Ahead
+pub mod Parting
+pub mod Whole

@@ -1,8 +1,10 @@
 // Whether two texts have the same counted tokens, and where they part.
 ghost use Rattle.same.specs.Compare.{refusedBy, compared, Compared};
-ghost use Rattle.same.specs.Places.{placeOf, Placed};
 
+mod places;
 mod walk;
+
+pub use places::place_of;
 
 use text::Answer;
 use text::check_cut;
@@ -36,7 +38,7 @@ pub struct Comparison {
     pub new: Sight,
 }
 
-// Both from 1.
+// As an editor counts them, both from 1: lines end at LF, and a column is a character.
 #[repr(C)]
 pub struct Place {
     pub line: usize,
