@@ -2,3 +2,4 @@ pub mod Alike
 pub mod Ahead
 pub mod Parting
 pub mod Whole
+pub mod Lines

@@ -1,7 +1,7 @@
 -- The line and the column of a place in a text, as an editor counts them, both from 1.
 -- Assumes nothing.
 use mathlib.Core.Path.{_≡_}
-use mathlib.Core.Bool.{Bool, true, false, _&&_}
+use mathlib.Core.Bool.{Bool, cond, _&&_}
 use mathlib.Core.List.{List, [], _∷_}
 use Prim.Native.Nat.{ℕ, suc}
 use lib.Dec.{eqb, leb}
@@ -11,18 +11,17 @@ use lib.ListN.{take}
 abbrev pub goesOn : ℕ → Bool
 goesOn b = leb 0x80 b && leb b 0xBF
 
--- behind some bytes, from a line and a column on: an LF begins the next line, and each byte that begins a character is one column
-unfoldable pub placeFrom : ℕ → ℕ → List ℕ → ℕ × ℕ
-placeFrom line column [] = (line, column)
-placeFrom line column (b ∷ s) =
-    elim (eqb b 0x0A) [
-      | true ↦ placeFrom (suc line) 1 s
-      | false ↦ elim (goesOn b) [ true ↦ placeFrom line column s | false ↦ placeFrom line (suc column) s ]
-    ]
+-- the line and the column behind a byte: an LF begins the next line, and a byte that begins a character is one column
+unfoldable pub next : ℕ × ℕ → ℕ → ℕ × ℕ
+next p b = cond (eqb b 0x0A) (suc (p .0), 1) (cond (goesOn b) p (p .0, suc (p .1)))
 
--- past the end it is the end's
+unfoldable pub placeFrom : ℕ × ℕ → List ℕ → ℕ × ℕ
+placeFrom p [] = p
+placeFrom p (b ∷ s) = placeFrom (next p b) s
+
+-- behind the bytes before a place; past the end it is the end's
 unfoldable pub placeOf : List ℕ → ℕ → ℕ × ℕ
-placeOf s at = placeFrom 1 1 (take at s)
+placeOf s at = placeFrom (1, 1) (take at s)
 
 pub record Placed (is : ℕ × ℕ) (line column : ℕ) : Type 0 where
   pub line-is : line ≡ is .0

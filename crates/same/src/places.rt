@@ -1,6 +1,7 @@
 // Lines and columns.
 ghost use mathlib.Core.Path.{_≡_};
-ghost use Rattle.same.specs.Places.{goesOn, placeOf, Placed};
+ghost use Prim.Native.Nat.{_≤_};
+ghost use Rattle.same.specs.Places.{goesOn, next, placeOf, Placed};
 use crate::Place;
 
 // Whether a byte goes on with a character.
@@ -13,27 +14,38 @@ fn goes_on(b: u8) -> bool
     b <= 0xBF
 }
 
+// The place behind a byte.
+fn behind(p: Place, b: u8) -> Place
+    requires { ⌜ (p .line ≤ 9223372036854775808) × (p .column ≤ 9223372036854775808) ⌝ }
+    ensures { λ r. ⌜ Placed (next (p .line, p .column) b) (r .line) (r .column) ⌝ }
+{
+    if b == 0x0A {
+        return Place {
+            line: p.line + 1,
+            column: 1,
+        };
+    }
+    if goes_on(b) {
+        return p;
+    }
+    Place {
+        line: p.line,
+        column: p.column + 1,
+    }
+}
+
 // The line and the column of a place in a text; past the end they are the end's.
 pub fn place_of(text: &[u8], at: usize) -> Place
     ensures { λ r. ⌜ Placed (placeOf (now (text .entry)) at) (r .line) (r .column) ⌝ }
 {
-    let mut line: usize = 1;
-    let mut column: usize = 1;
+    let mut p = Place { line: 1, column: 1 };
     let mut i = 0;
     while i < text.len() {
         if at <= i {
-            return Place { line, column };
+            return p;
         }
-        let b = text[i];
-        if b == 0x0A {
-            line += 1;
-            column = 1;
-        } else {
-            if !goes_on(b) {
-                column += 1;
-            }
-        }
+        p = behind(p, text[i]);
         i += 1;
     }
-    Place { line, column }
+    p
 }
