@@ -1,0 +1,167 @@
+// oqsame OLD NEW: whether a file is the one that was there before, in all but white space and closed comments. It says so of the
+// counted tokens under the default profile: they are the same exactly when the files' renewal keys are.
+//
+// It writes to standard output
+//     same
+// or, of the first counted token that differs, its number from 1 and where it stands in each file (`end` where a file has no
+// more; places and lengths in bytes, lines and columns from 1, a column being a character)
+//     different
+//     token NUMBER
+//     old kind K start S length L line L column C
+//     new end
+// or the answer to a file that is refused, with its name
+//     refused NUMBER ALSO NAME
+// What keeps it from comparing goes to standard error. It has no exit status of its own: the launcher gives 0 for same, 1 for
+// different and 2 for all else.
+ghost use Prim.Native.Nat.{_≤_};
+ghost use lib.ListN.{length};
+use libc::STDERR_FILENO;
+use libc::STDOUT_FILENO;
+use same::Sight;
+use text::Answer;
+
+// The most bytes of a file: the program's own limit. Both files stand on the stack.
+const MOST: usize = 1048576;
+
+// Whether all of a file was read, and how many bytes that is.
+struct Input {
+    whole: bool,
+    len: usize,
+}
+
+fn print(bytes: &[u8]) {
+    io::write_all(STDOUT_FILENO, bytes);
+}
+
+fn complain(bytes: &[u8]) {
+    io::write_all(STDERR_FILENO, bytes);
+}
+
+fn print_number(label: &[u8], number: u64) {
+    print(label);
+    io::print_decimal(STDOUT_FILENO, number);
+}
+
+fn print_sight(label: &[u8], text: &[u8], sight: Sight) {
+    print(label);
+    if sight.len == 0 {
+        print(b" end\n");
+        return;
+    }
+    let place = same::place_of(text, sight.start);
+    print_number(b" kind ", sight.kind as u64);
+    print_number(b" start ", sight.start as u64);
+    print_number(b" length ", sight.len as u64);
+    print_number(b" line ", place.line as u64);
+    print_number(b" column ", place.column as u64);
+    print(b"\n");
+}
+
+fn print_refusal(name: &[u8], given: Answer) {
+    print_number(b"refused ", given.number as u64);
+    print_number(b" ", given.also);
+    print(b" ");
+    print(name);
+    print(b"\n");
+}
+
+fn compare_texts(old: &[u8], old_name: &[u8], new: &[u8], new_name: &[u8]) {
+    let c = same::compare(old, new, text::DEFAULT_PROFILE);
+    if c.verdict == same::SAME {
+        print(b"same\n");
+        return;
+    }
+    if c.verdict == same::OLD_REFUSED {
+        print_refusal(old_name, c.refusal);
+        return;
+    }
+    if c.verdict == same::NEW_REFUSED {
+        print_refusal(new_name, c.refusal);
+        return;
+    }
+    print(b"different\n");
+    print_number(b"token ", std::num::wrapping_add_u64(c.agreed as u64, 1));
+    print(b"\n");
+    print_sight(b"old", old, c.old);
+    print_sight(b"new", new, c.new);
+}
+
+// Whether the file ends where reading stopped; if not, why it cannot be compared.
+fn ends(fd: i32, name: &[u8], n: usize) -> bool {
+    let mut one = [0u8; 1];
+    let got = libc::read(fd, &mut one);
+    if got == 0 {
+        return true;
+    }
+    complain(b"oqsame: ");
+    if got < 0 {
+        os::fail(name);
+        return false;
+    }
+    complain(name);
+    if n < MOST {
+        complain(b": reading was interrupted\n");
+        return false;
+    }
+    complain(b": longer than 1048576 bytes\n");
+    false
+}
+
+fn read_file(name: &[u8], room: &mut [u8]) -> Input
+    ensures { λ r. ⌜ r .len ≤ length (now (room .exit)) ⌝ }
+{
+    let fd = os::open_read(name);
+    if fd < 0 {
+        complain(b"oqsame: ");
+        os::fail(name);
+        return Input {
+            whole: false,
+            len: 0,
+        };
+    }
+    let len = io::read_full(fd, room);
+    let whole = ends(fd, name, len);
+    libc::close(fd);
+    Input { whole, len }
+}
+
+fn compare_files(old: &mut [u8], old_name: &[u8], new: &mut [u8], new_name: &[u8]) {
+    let first = read_file(old_name, old);
+    if !first.whole {
+        return;
+    }
+    let second = read_file(new_name, new);
+    if !second.whole {
+        return;
+    }
+    let a = first.len;
+    let b = second.len;
+    compare_texts(&old[0..a], old_name, &new[0..b], new_name);
+}
+
+// Reads the two names.
+fn run(old: &mut [u8; MOST], new: &mut [u8; MOST]) {
+    let mut old_name = io::buffer();
+    let a = os::arg(1, &mut old_name);
+    if os::errno() != 0 {
+        os::fail(b"oqsame: OLD");
+        return;
+    }
+    let mut new_name = io::buffer();
+    let b = os::arg(2, &mut new_name);
+    if os::errno() != 0 {
+        os::fail(b"oqsame: NEW");
+        return;
+    }
+    compare_files(old, &old_name[..a], new, &new_name[..b]);
+}
+
+fn main() {
+    if os::arg_count() != 3 {
+        complain(b"usage: oqsame OLD NEW\n");
+        return;
+    }
+    let mut old = [0u8; MOST];
+    let mut new = [0u8; MOST];
+    run(&mut old, &mut new);
+}
