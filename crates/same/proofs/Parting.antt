@@ -148,7 +148,7 @@ module _ {cut : List ℕ → List Tok} {s s′ : List ℕ} {a b n kind start mar
       let x = p .some h₁ in
       let y = q .some h₂ in
       let g : agree (membersFrom cut s a) (membersFrom cut s′ b) ≡ suc (agree (membersFrom cut s end) (membersFrom cut s′ end′)) =
-          rw (x .0, y .0) (agree-more m m′ (membersFrom cut s end) (membersFrom cut s′ end′) f)
+      rw (x .0, y .0) (agree-more m m′ (membersFrom cut s end) (membersFrom cut s′ end′) f)
       in
       record {
         few = omega (arith, w .few, p .after);

@@ -68,14 +68,15 @@ compared-unique p q =
 
 -- ---- the same exactly when the counted tokens are
 all-same : (l l′ : List Member) → (cond (eqb (agree l l′) (length l) && eqb (agree l l′) (length l′)) same different ≡ same → l ≡ l′) × (l ≡ l′ → cond (eqb (agree l l′) (length l) && eqb (agree l l′) (length l′)) same different ≡ same)
-all-same l l′ =
-    (λ h.
-    by-test (eqb (agree l l′) (length l) && eqb (agree l l′) (length l′))
-    (λ t.
-    let x = both (eqb (agree l l′) (length l)) (eqb (agree l l′) (length l′)) t in
-    agree-all l l′ (eqb-true _ _ (x .0)) (eqb-true _ _ (x .1)))
-    (λ f. absurd (omega (arith, rw f at h))),
-    λ e. rw (← e) (rw (eq-eqb (agree l l) (length l) (agree-self l))))
+all-same l l′ = (
+  λ h.
+      by-test (eqb (agree l l′) (length l) && eqb (agree l l′) (length l′))
+      (λ t.
+      let x = both (eqb (agree l l′) (length l)) (eqb (agree l l′) (length l′)) t in
+      agree-all l l′ (eqb-true _ _ (x .0)) (eqb-true _ _ (x .1)))
+      (λ f. absurd (omega (arith, rw f at h))),
+  λ e. rw (← e) (rw (eq-eqb (agree l l) (length l) (agree-self l))),
+)
 
 module _ (profile : ℕ) (s s′ : List ℕ) (h : checkCut s profile .0 ≡ done) (h′ : checkCut s′ profile .0 ≡ done) where
   accepted-is : compared profile s s′ ≡ partedBy (tokensOf profile) s s′

@@ -5,7 +5,6 @@ mod places;
 mod walk;
 
 pub use places::place_of;
-
 use text::Answer;
 use text::check_cut;
 use walk::lend;
