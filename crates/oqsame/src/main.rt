@@ -103,7 +103,9 @@ fn ends(fd: i32, name: &[u8], n: usize) -> bool {
         complain(b": reading was interrupted\n");
         return false;
     }
-    complain(b": longer than 1048576 bytes\n");
+    complain(b": longer than ");
+    io::print_decimal(STDERR_FILENO, MOST as u64);
+    complain(b" bytes\n");
     false
 }
 

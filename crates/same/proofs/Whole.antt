@@ -1,27 +1,26 @@
 -- The answer of `compare`, that it is the only one, and what it says: the same exactly when the renewal keys are equal.
 -- Assumes nothing.
-use Prim.Native.Nat.{ℕ, suc, _+_, _≤_, _<_}
+use Prim.Native.Nat.{ℕ, _<_}
 use native.Mathlib.Omega.{arith}
 use mathlib.Core.Path.{_≡_, refl, ap, sym, subst, _∙_}
-use mathlib.Core.Bool.{Bool, true, false, cond, _&&_, false≢true}
-use mathlib.Core.List.{List, [], _∷_}
+use mathlib.Core.Bool.{true, false, cond, _&&_}
+use mathlib.Core.List.{List}
 use lib.Dec.{eqb}
-use lib.ListN.{length, take, drop, getD}
-use lib.Seq.{drop-drop}
+use lib.ListN.{length}
 use borrow.Author.Tests.{eq-eqb, ne-eqb, eqb-true}
 use Rattle.lists.proofs.Bools.{by-test, both}
 use Rattle.unicode.specs.Ranges.{flat}
 use Rattle.unicode.specs.Ucd.{xidStart, xidContinue, emoji}
 use Rattle.text.specs.Answer.{Answered, done, checkCut}
-use Rattle.lexer.specs.Cut.{Letters, Tok}
+use Rattle.lexer.specs.Cut.{Letters}
 use Rattle.lexer.specs.Unicode.{lent}
 use Rattle.lexer.specs.Outcome.{tokensOf}
 use Rattle.lexer.proofs.Unicode.{lent-is}
-use Rattle.renewal.specs.Members.{Member, isCounted, memberOf, counted, membersBy, membersOf}
+use Rattle.renewal.specs.Members.{Member, membersOf}
 use Rattle.renewal.specs.Key.{keyOfText}
 use Rattle.renewal.specs.Steps.{cutBy}
 use Rattle.renewal.proofs.Exactly.{exactly-when}
-use Rattle.same.specs.Compare.{Sight, Comparison, Shown, Compared, agree, sights, same, different, oldRefused, newRefused, partedBy, refusedBy, compared}
+use Rattle.same.specs.Compare.{Sight, Comparison, Shown, Compared, agree, same, different, oldRefused, newRefused, partedBy, refusedBy, compared}
 use Rattle.same.proofs.Alike.{agree-all, agree-self}
 
 -- ---- over the constant tables
@@ -102,27 +101,3 @@ verdict-accepted profile s s′ h =
     by-test (eqb (checkCut s′ profile .0) done) (λ f. (eqb-true _ _ e, eqb-true _ _ f))
     (λ f. absurd (omega (arith, rw (e, f) at h))))
     (λ e. absurd (omega (arith, rw e at h)))
-
--- ---- what is shown of a counted token is its own: its kind, its length, and where its bytes stand in the text
-unfoldable pub shows : List ℕ → List Sight → List Member → Type 0
-shows s [] [] = Unit {0}
-shows s [] (m ∷ ms) = ⊥
-shows s (v ∷ vs) [] = ⊥
-shows s (v ∷ vs) (m ∷ ms) = (v .kind ≡ m .kind) × (v .len ≡ m .len) × (take (v .len) (drop (v .start) s) ≡ m .bytes) × shows s vs ms
-
-shows-from : (s : List ℕ) (at : ℕ) (ts : List Tok) → shows s (sights at ts) (counted (drop at s) ts)
-unfolding shows sights counted
-shows-from s at [] = tt
-shows-from s at (t ∷ ts) =
-    let r : shows s (sights (at + t .len) ts) (counted (drop (t .len) (drop at s)) ts) = rw drop-drop (shows-from s (at + t .len) ts) in
-    go (isCounted (t .kind)) r
-  where
-    go : (b : Bool) → shows s (sights (at + t .len) ts) (counted (drop (t .len) (drop at s)) ts) →
-        shows s (elim b [ true ↦ record { kind = t .kind; start = at; len = t .len } ∷ sights (at + t .len) ts | false ↦ sights (at + t .len) ts ])
-        (elim b [ true ↦ memberOf (drop at s) t ∷ counted (drop (t .len) (drop at s)) ts | false ↦ counted (drop (t .len) (drop at s)) ts ])
-    go true r = (refl, refl, refl, r)
-    go false r = r
-
-pub shows-members : (profile : ℕ) (s : List ℕ) → shows s (sights 0 (tokensOf profile s)) (membersOf profile s)
-unfolding membersOf membersBy
-shows-members profile s = shows-from s 0 (tokensOf profile s)

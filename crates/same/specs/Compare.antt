@@ -3,9 +3,9 @@
 use mathlib.Core.Path.{_≡_}
 use mathlib.Core.Bool.{Bool, true, false, cond, _&&_}
 use mathlib.Core.List.{List, [], _∷_}
-use Prim.Native.Nat.{ℕ, suc, _+_}
+use Prim.Native.Nat.{ℕ, suc, _+_, _≤_}
 use lib.Dec.{eqb}
-use lib.ListN.{length, getD}
+use lib.ListN.{length, take, drop, getD}
 use Rattle.text.specs.Answer.{done, checkCut}
 use Rattle.lexer.specs.Kinds.{eof}
 use Rattle.lexer.specs.Cut.{Tok}
@@ -110,3 +110,10 @@ pub record Compared (c : Comparison) (verdict number also agreed kind start len 
   pub agreed-is : agreed ≡ c .agreed
   pub old-is : Shown (c .old) kind start len
   pub new-is : Shown (c .new) kind′ start′ len′
+
+-- ---- for the theorem on what is shown: each is a counted token's own kind, length and bytes, at least one, where they stand in the text
+unfoldable pub shows : List ℕ → List Sight → List Member → Type 0
+shows s [] [] = Unit {0}
+shows s [] (m ∷ ms) = ⊥
+shows s (v ∷ vs) [] = ⊥
+shows s (v ∷ vs) (m ∷ ms) = (v .kind ≡ m .kind) × (v .len ≡ m .len) × (1 ≤ v .len) × (take (v .len) (drop (v .start) s) ≡ m .bytes) × shows s vs ms

@@ -26,3 +26,11 @@ placeOf s at = placeFrom (1, 1) (take at s)
 pub record Placed (is : ℕ × ℕ) (line column : ℕ) : Type 0 where
   pub line-is : line ≡ is .0
   pub column-is : column ≡ is .1
+
+-- ---- for the theorem that a column is a character: the same by characters
+unfoldable pub nextChar : ℕ × ℕ → ℕ → ℕ × ℕ
+nextChar p c = cond (eqb c 0x0A) (suc (p .0), 1) (p .0, suc (p .1))
+
+unfoldable pub charsFrom : ℕ × ℕ → List ℕ → ℕ × ℕ
+charsFrom p [] = p
+charsFrom p (c ∷ t) = charsFrom (nextChar p c) t
