@@ -7,7 +7,7 @@
 // more; places and lengths in bytes, lines and columns from 1, a column being a character)
 //     different
 //     token NUMBER
-//     old kind K start S length L line L column C
+//     old kind KIND start START length LENGTH line LINE column COLUMN
 //     new end
 // or the answer to a file that is refused, with its name
 //     refused NUMBER ALSO NAME

@@ -2,20 +2,20 @@
 -- Assumes nothing.
 use Prim.Native.Nat.{ℕ, _+_, _-_, _≤_, _<_}
 use native.Mathlib.Omega.{arith}
-use mathlib.Core.Path.{_≡_, refl, ap, sym, _∙_}
+use mathlib.Core.Path.{_≡_, refl, sym, _∙_}
 use mathlib.Core.Bool.{Bool, true, false}
 use mathlib.Core.List.{List, [], _∷_}
-use lib.ListN.{length, take, drop, drop-of-length-le}
+use lib.ListN.{length, drop, drop-of-length-le}
 use lib.Seq.{drop-drop}
 use Rattle.lexer.specs.Kinds.{eof}
 use Rattle.lexer.specs.Cut.{Letters, Tok}
 use Rattle.lexer.specs.Steps.{Advanced}
 use Rattle.lexer.proofs.Whole.{tokens-at}
-use Rattle.renewal.specs.Members.{Member, isCounted, memberOf, counted, membersBy}
+use Rattle.renewal.specs.Members.{isCounted, memberOf, counted, membersBy}
 use Rattle.renewal.specs.Steps.{cutBy}
 use Rattle.renewal.proofs.Cutter.{cutter}
-use Rattle.same.specs.Compare.{Sight, sights}
-use Rattle.same.specs.Steps.{Within, memberAt, sightAt, membersFrom, sightsFrom, Ahead}
+use Rattle.same.specs.Compare.{sights}
+use Rattle.same.specs.Steps.{memberAt, sightAt, membersFrom, sightsFrom, Ahead}
 
 -- ---- a token in front is counted, or is not
 module _ (t : Tok) (ts : List Tok) where

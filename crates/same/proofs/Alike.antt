@@ -9,7 +9,7 @@ use mathlib.Core.List.{List, [], _∷_}
 use lib.Dec.{eqb}
 use lib.ListN.{length, take, drop, getD, length-drop, drop-of-length-le}
 use lib.Seq.{drop-cons, length-take-le, take-length}
-use borrow.Author.Tests.{eqb-true, eqb-false, eq-eqb, ne-eqb}
+use borrow.Author.Tests.{eqb-true, eq-eqb, ne-eqb}
 use Rattle.lists.proofs.Bools.{by-test, both, and-false}
 use Rattle.renewal.specs.Members.{Member}
 use Rattle.same.specs.Compare.{sameBytes, alike, agree}
@@ -36,10 +36,8 @@ bytes-same (a ∷ s) = rw (eq-eqb a a refl) (bytes-same s)
 abbrev make : ℕ → ℕ → ℕ → List ℕ → Member
 make k n s t = record { kind = k; len = n; suff = s; bytes = t }
 
-same-parts : {x y : Member} → x .kind ≡ y .kind → x .len ≡ y .len → x .suff ≡ y .suff → x .bytes ≡ y .bytes → x ≡ y
-same-parts {x} {y} a b c d =
-    ap (λ (k : ℕ). make k (x .len) (x .suff) (x .bytes)) a ∙ ap (λ (n : ℕ). make (y .kind) n (x .suff) (x .bytes)) b
-    ∙ ap (λ (n : ℕ). make (y .kind) (y .len) n (x .bytes)) c ∙ ap (make (y .kind) (y .len) (y .suff)) d
+made-equal : {k k′ n n′ s s′ : ℕ} {t t′ : List ℕ} → k ≡ k′ → n ≡ n′ → s ≡ s′ → t ≡ t′ → make k n s t ≡ make k′ n′ s′ t′
+made-equal a b c d = rw (a, b, c, d)
 
 pub alike-equal : (m m′ : Member) → alike m m′ ≡ true → m ≡ m′
 unfolding alike
@@ -51,7 +49,7 @@ alike-equal m m′ e =
     let l : m .len ≡ m′ .len = eqb-true _ _ (b .0) in
     let u : m .suff ≡ m′ .suff = eqb-true _ _ (d .0) in
     let s : m .bytes ≡ m′ .bytes = bytes-equal (m .bytes) (m′ .bytes) (d .1) in
-    same-parts k l u s
+    made-equal k l u s
 
 pub alike-self : (m : Member) → alike m m ≡ true
 unfolding alike

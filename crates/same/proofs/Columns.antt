@@ -3,18 +3,16 @@
 use Prim.Native.Nat.{ℕ, suc, _+_, _/_, _%_, _≤_, _<_}
 use native.Mathlib.Decide.{decLt}
 use native.Mathlib.Omega.{arith}
-use mathlib.Core.Path.{_≡_, refl, ap, sym, _∙_}
-use mathlib.Core.Bool.{Bool, true, false, cond, _&&_}
+use mathlib.Core.Path.{_≡_, refl, _∙_}
+use mathlib.Core.Bool.{true, false}
 use mathlib.Core.List.{List, [], _∷_, _++_, append-nil}
-use lib.Dec.{eqb, leb, ltb}
+use lib.Dec.{eqb, leb}
 use lib.ListN.{take}
-use borrow.Author.Tests.{eq-eqb, ne-eqb, le-leb, lt-leb, lt-ltb, le-ltb}
-use Rattle.lists.specs.All.{all}
-use Rattle.lists.proofs.Bools.{by-test, both}
-use Rattle.unicode.specs.Utf8.{chars, isScalar, encode, encodeAll, WellFormed}
+use borrow.Author.Tests.{ne-eqb, le-leb, lt-leb, lt-ltb, le-ltb}
+use Rattle.unicode.specs.Utf8.{chars, encode, encodeAll, WellFormed}
 use Rattle.unicode.proofs.Valid.{read-back, well-formed-encoded}
 use Rattle.unicode.proofs.Text.{chars-nil}
-use Rattle.same.specs.Places.{goesOn, next, placeFrom, placeOf, nextChar, charsFrom}
+use Rattle.same.specs.Places.{next, placeFrom, placeOf, nextChar, charsFrom}
 
 -- ---- one byte
 begun : (p : ℕ × ℕ) (b : ℕ) → 0xBF < b → next p b ≡ (p .0, suc (p .1))

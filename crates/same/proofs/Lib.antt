@@ -5,3 +5,4 @@ pub mod Whole
 pub mod Shown
 pub mod Lines
 pub mod Columns
+pub mod Samples

@@ -4,14 +4,18 @@ use Prim.Native.Nat.{ℕ, suc, _+_, _≤_, _<_}
 use native.Mathlib.Omega.{arith}
 use native.Mathlib.Numerals.{add-one}
 use mathlib.Core.Path.{_≡_, refl, ap, sym, _∙_}
-use mathlib.Core.Bool.{Bool, true, false, cond}
-use mathlib.Core.List.{List, [], _∷_}
+use mathlib.Core.Bool.{Bool, true, false}
+use mathlib.Core.List.{List, _∷_}
 use lib.Dec.{eqb, leb}
 use lib.ListN.{length, take, drop, getD, length-take, drop-of-length-le}
 use lib.Seq.{drop-cons, getD-take}
 use borrow.Author.Tests.{eq-eqb, ne-eqb, le-leb, lt-leb}
-use Rattle.lists.proofs.Bools.{by-test, on-cond}
+use Rattle.lists.proofs.Bools.{on-cond}
 use Rattle.same.specs.Places.{goesOn, next, placeFrom, placeOf, Placed}
+
+-- ---- ONE OUTCOME
+pub placed-unique : {is : ℕ × ℕ} {l c l′ c′ : ℕ} → Placed is l c → Placed is l′ c′ → (l ≡ l′) × (c ≡ c′)
+placed-unique p q = (p .line-is ∙ sym (q .line-is), p .column-is ∙ sym (q .column-is))
 
 -- ---- one byte
 pub begins : (b : ℕ) {r : Bool} → b < 0x80 → r ≡ false → r ≡ goesOn b

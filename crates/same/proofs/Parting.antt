@@ -5,17 +5,17 @@ use native.Mathlib.Decide.{decLt}
 use native.Mathlib.Omega.{arith}
 use mathlib.Core.Path.{_≡_, refl, ap, sym, _∙_}
 use mathlib.Core.Bool.{Bool, true, false, cond, not, _&&_, false≢true}
-use mathlib.Core.List.{List, [], _∷_}
+use mathlib.Core.List.{List, []}
 use lib.Dec.{eqb}
-use lib.ListN.{length, take, drop, getD}
+use lib.ListN.{length, drop, getD}
 use lib.Seq.{drop-drop, getD-drop}
 use borrow.Author.Tests.{eqb-true, eq-eqb, not-true, not-false}
 use Rattle.lists.proofs.Bools.{by-test, both}
 use Rattle.lexer.specs.Kinds.{eof}
 use Rattle.lexer.specs.Cut.{Tok}
 use Rattle.renewal.specs.Members.{Member, membersBy}
-use Rattle.same.specs.Compare.{Sight, Comparison, Compared, alike, agree, sights, endOf, same, different, partedBy}
-use Rattle.same.specs.Steps.{Within, memberAt, sightAt, membersFrom, sightsFrom, Ahead, showing}
+use Rattle.same.specs.Compare.{Sight, Compared, alike, agree, sights, endOf, same, different, partedBy}
+use Rattle.same.specs.Steps.{memberAt, sightAt, membersFrom, sightsFrom, Ahead, showing}
 use Rattle.same.proofs.Alike.{alike-equal, alike-self, agree-more, agree-stop}
 
 -- ---- one text: the first counted token from a place on
