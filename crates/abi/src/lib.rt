@@ -1,11 +1,175 @@
-// The names that C and Rust link: thin, with no rule of its own.
-ghost use Rattle.lexer.specs.Outcome.{Listed};
+// The names that C and Rust link: each function is one call, under the promise of the function that it calls.
+// include/oq3.h declares them. advance_token has no such name: a list of its tokens is what a caller gets, and each further caller of it in
+// one archive makes the others slower (docs/PERFORMANCE.md).
+ghost use mathlib.Core.Path.{_≡_};
+ghost use mathlib.Core.Bool.{true, false};
+ghost use Prim.Native.Nat.{_%_};
+ghost use Rattle.unicode.specs.Utf8.{validUpTo};
+ghost use Rattle.unicode.specs.Text.{Decoded};
+ghost use Rattle.text.specs.Answer.{Answered, checkText, checkCut};
+ghost use Rattle.lexer.specs.Chars.{isWhitespace, isIdStart, isIdContinue};
+ghost use Rattle.lexer.specs.Outcome.{Listed, identified};
+ghost use Rattle.unescape.specs.Modes.{testedMode, inDoubleQuotes, charactersShouldBeAscii, isUnicodeEscapeDisallowed, hasPrefix};
+ghost use Rattle.unescape.specs.Errors.{fatal};
+ghost use Rattle.unescape.specs.Outcome.{Unescaped, part, single};
+ghost use Rattle.renewal.specs.Outcome.{Keyed};
 use lexer::list::tokenize;
+use renewal::renewal_key;
 use text::Answer;
+use text::check_cut;
+use text::check_text;
+use unescape::unescape_literal;
+use unescape::unescape_part;
+use unicode::utf8::Char;
+use unicode::utf8::decode;
+use unicode::utf8::valid_up_to;
 
+// ---- tokens
 #[no_mangle]
 pub extern "C" fn oq3_tokenize(text: &[u8], profile: u32, list: &mut [u32]) -> Answer
     ensures { λ r. ⌜ Listed (now (text .entry)) profile (now (list .entry)) (r .number) (r .also) (now (list .exit)) ⌝ }
 {
     tokenize(text, profile, list)
+}
+
+#[no_mangle]
+pub extern "C" fn oq3_is_whitespace(c: u32) -> bool
+    ensures { λ r. ⌜ r ≡ isWhitespace c ⌝ }
+{
+    lexer::is_whitespace(c)
+}
+
+#[no_mangle]
+pub extern "C" fn oq3_is_id_start(c: u32) -> bool
+    ensures { λ r. ⌜ r ≡ isIdStart c ⌝ }
+{
+    lexer::is_id_start(c)
+}
+
+#[no_mangle]
+pub extern "C" fn oq3_is_id_continue(c: u32) -> bool
+    ensures { λ r. ⌜ r ≡ isIdContinue c ⌝ }
+{
+    lexer::is_id_continue(c)
+}
+
+#[no_mangle]
+pub extern "C" fn oq3_is_ident(text: &[u8]) -> Answer
+    ensures { λ r. ⌜ Answered (identified (now (text .entry))) (r .number) (r .also) ⌝ }
+{
+    lexer::is_ident(text)
+}
+
+// ---- the key
+#[no_mangle]
+pub extern "C" fn oq3_renewal_key(text: &[u8], profile: u32, key: &mut [u8]) -> Answer
+    ensures { λ r. ⌜ Keyed (now (text .entry)) profile (now (key .entry)) (r .number) (r .also) (now (key .exit)) ⌝ }
+{
+    renewal_key(text, profile, key)
+}
+
+// ---- the bodies of literals
+#[no_mangle]
+pub extern "C" fn oq3_unescape_literal(body: &[u8], mode: u32, list: &mut [u32]) -> Answer
+    ensures { λ r. ⌜ Unescaped (now (body .entry)) mode (now (list .entry)) (r .number) (r .also) (now (list .exit)) ⌝ }
+{
+    unescape_literal(body, mode, list)
+}
+
+#[no_mangle]
+pub extern "C" fn oq3_unescape_part(
+    text: &[u8],
+    from: usize,
+    to: usize,
+    mode: u32,
+    list: &mut [u32],
+) -> Answer
+    ensures { λ r. ⌜ Unescaped (part (now (text .entry)) from to) mode (now (list .entry)) (r .number) (r .also) (now (list .exit)) ⌝ }
+{
+    unescape_part(text, from, to, mode, list)
+}
+
+#[no_mangle]
+pub extern "C" fn oq3_unescape_char(text: &[u8]) -> Answer
+    ensures { λ r. ⌜ Answered (single false (now (text .entry))) (r .number) (r .also) ⌝ }
+{
+    unescape::unescape_char(text)
+}
+
+#[no_mangle]
+pub extern "C" fn oq3_unescape_byte(text: &[u8]) -> Answer
+    ensures { λ r. ⌜ Answered (single true (now (text .entry))) (r .number) (r .also) ⌝ }
+{
+    unescape::unescape_byte(text)
+}
+
+#[no_mangle]
+pub extern "C" fn oq3_byte_from_char(c: u32) -> u8
+    ensures { λ r. ⌜ r ≡ c % 256 ⌝ }
+{
+    unescape::byte_from_char(c)
+}
+
+#[no_mangle]
+pub extern "C" fn oq3_in_double_quotes(mode: u32) -> Answer
+    ensures { λ r. ⌜ Answered (testedMode inDoubleQuotes mode) (r .number) (r .also) ⌝ }
+{
+    unescape::in_double_quotes(mode)
+}
+
+#[no_mangle]
+pub extern "C" fn oq3_characters_should_be_ascii(mode: u32) -> Answer
+    ensures { λ r. ⌜ Answered (testedMode charactersShouldBeAscii mode) (r .number) (r .also) ⌝ }
+{
+    unescape::characters_should_be_ascii(mode)
+}
+
+#[no_mangle]
+pub extern "C" fn oq3_is_unicode_escape_disallowed(mode: u32) -> Answer
+    ensures { λ r. ⌜ Answered (testedMode isUnicodeEscapeDisallowed mode) (r .number) (r .also) ⌝ }
+{
+    unescape::is_unicode_escape_disallowed(mode)
+}
+
+#[no_mangle]
+pub extern "C" fn oq3_prefix_noraw(mode: u32) -> Answer
+    ensures { λ r. ⌜ Answered (testedMode hasPrefix mode) (r .number) (r .also) ⌝ }
+{
+    unescape::prefix_noraw(mode)
+}
+
+#[no_mangle]
+pub extern "C" fn oq3_is_fatal(error: u32) -> Answer
+    ensures { λ r. ⌜ Answered (fatal error) (r .number) (r .also) ⌝ }
+{
+    unescape::is_fatal(error)
+}
+
+// ---- texts and characters
+#[no_mangle]
+pub extern "C" fn oq3_check_text(text: &[u8]) -> Answer
+    ensures { λ r. ⌜ Answered (checkText (now (text .entry))) (r .number) (r .also) ⌝ }
+{
+    check_text(text)
+}
+
+#[no_mangle]
+pub extern "C" fn oq3_check_cut(text: &[u8], profile: u32) -> Answer
+    ensures { λ r. ⌜ Answered (checkCut (now (text .entry)) profile) (r .number) (r .also) ⌝ }
+{
+    check_cut(text, profile)
+}
+
+#[no_mangle]
+pub extern "C" fn oq3_valid_up_to(text: &[u8]) -> usize
+    ensures { λ r. ⌜ r ≡ validUpTo (now (text .entry)) ⌝ }
+{
+    valid_up_to(text)
+}
+
+#[no_mangle]
+pub extern "C" fn oq3_decode(text: &[u8], at: usize) -> Char
+    ensures { λ r. ⌜ Decoded (now (text .entry)) at (r .code) (r .wide) ⌝ }
+{
+    decode(text, at)
 }
