@@ -1,0 +1,283 @@
+/*
+ * oq3.h: OpenQASM 3 text cut into tokens, its renewal key, and the bodies of its literals.
+ *
+ * The functions stand in the archive libabi.a, which `rt staticlib abi` writes to target/staticlib/. It is for x86-64 Linux, is compiled
+ * as position-independent code, asks for no processor newer than the first x86-64, and needs no other library, not even C's:
+ *
+ *     cc -std=c99 -I include program.c target/staticlib/libabi.a
+ *
+ * This header is C99, and C++ too.
+ *
+ * What is asked of a caller: that each pointer, with its count, is memory that the caller may read (`const`) or read and write.
+ *  - A count is of elements: bytes behind a `uint8_t *`, words behind a `uint32_t *`.
+ *  - A count of 0 may go with any pointer, NULL too: nothing is read or written through it. With any other count a pointer that is
+ *    NULL is an error of the caller's, and nothing notices it.
+ *  - A `uint32_t *` is aligned to four bytes, as C asks of it anyhow. Bytes may stand anywhere. They need no NUL behind them, and a NUL among
+ *    them is a character as any other.
+ *  - What is written must not overlap what is read: a list or a key shares no byte with the text of the same call. Two texts may overlap.
+ *  - What is lent to be written is never read: it may hold anything before the call.
+ * Nothing else is asked: every text, number and count has an answer, and it is proved that there is one only, refusals included.
+ *
+ * No function keeps anything between calls, asks for memory, calls another library, or fails in another way than by its answer. So
+ * calls from several threads go side by side, as long as no thread writes what another's call reads or writes. A call takes less
+ * than 16 KiB of stack.
+ */
+#ifndef OQ3_H
+#define OQ3_H
+
+#include <stdbool.h>
+#include <stddef.h>
+#include <stdint.h>
+
+#ifdef __cplusplus
+extern "C" {
+#endif
+
+/* ---- What comes back ---------------------------------------------------------------------------------------------------------- */
+
+/*
+ * `number` says how the call went, and `also` what comes with it. The checks go in the order of their numbers; the first that applies is
+ * given, and it is given only then. A refusal, which is any number but 0, leaves the lent memory as it was.
+ */
+typedef struct oq3_answer {
+    uint32_t number;
+    uint64_t also;
+} oq3_answer;
+
+enum {
+    OQ3_DONE = 0,             /* done; also: how many records or key bytes were written, or the function's own value */
+    OQ3_UNKNOWN_SELECTOR = 1, /* no such profile, mode or error; also: 0 */
+    OQ3_TOO_LONG = 2,         /* the text has more than OQ3_LONGEST bytes; also: 0 */
+    OQ3_NOT_UTF8 = 3,         /* the text is not UTF-8; also: the length of its longest well-formed beginning, in bytes */
+    OQ3_ROOM_TOO_SMALL = 4    /* there is too little room; also: how many records or key bytes are needed */
+};
+
+/* The most bytes that a text may have. */
+#define OQ3_LONGEST UINT32_C(4294967295)
+
+/* Profiles: how the Rust crate oq3_lexer 0.7.0 cuts when it is built for release, and when it is built with debug assertions. */
+enum {
+    OQ3_PROFILE_RELEASE = 0,
+    OQ3_PROFILE_DEBUG = 1,
+    OQ3_DEFAULT_PROFILE = OQ3_PROFILE_RELEASE /* for a caller with no wish of its own */
+};
+
+/* ---- Tokens ------------------------------------------------------------------------------------------------------------------- */
+
+/* The kinds. Numbers that are missing here are never given. */
+enum {
+    OQ3_KIND_LINE_COMMENT = 1,
+    OQ3_KIND_BLOCK_COMMENT = 2,
+    OQ3_KIND_BLOCK_COMMENT_UNCLOSED = 3,
+    OQ3_KIND_WHITESPACE = 4,
+    OQ3_KIND_IDENT = 5, /* keywords too */
+    OQ3_KIND_HARDWARE_IDENT = 6,
+    OQ3_KIND_INVALID_IDENT = 7,
+    OQ3_KIND_PRAGMA = 8,
+    OQ3_KIND_ANNOTATION = 9,
+    OQ3_KIND_SEMI = 10,
+    OQ3_KIND_COMMA = 11,
+    OQ3_KIND_DOT = 12,
+    OQ3_KIND_OPEN_PAREN = 13,
+    OQ3_KIND_CLOSE_PAREN = 14,
+    OQ3_KIND_OPEN_BRACE = 15,
+    OQ3_KIND_CLOSE_BRACE = 16,
+    OQ3_KIND_OPEN_BRACKET = 17,
+    OQ3_KIND_CLOSE_BRACKET = 18,
+    OQ3_KIND_AT = 19,
+    OQ3_KIND_TILDE = 21,
+    OQ3_KIND_QUESTION = 22,
+    OQ3_KIND_COLON = 23,
+    OQ3_KIND_DOLLAR = 24, /* with the underscores behind it: one byte or more */
+    OQ3_KIND_EQ = 25,
+    OQ3_KIND_BANG = 26,
+    OQ3_KIND_LT = 27,
+    OQ3_KIND_GT = 28,
+    OQ3_KIND_MINUS = 29,
+    OQ3_KIND_AND = 30,
+    OQ3_KIND_OR = 31,
+    OQ3_KIND_PLUS = 32,
+    OQ3_KIND_STAR = 33,
+    OQ3_KIND_SLASH = 34,
+    OQ3_KIND_CARET = 35,
+    OQ3_KIND_PERCENT = 36,
+    OQ3_KIND_UNKNOWN = 37,
+    /* The literals, from here on. EMPTY: a prefix with no digit behind it; an exponent with none. */
+    OQ3_KIND_INT_BINARY = 40,
+    OQ3_KIND_INT_BINARY_EMPTY = 41,
+    OQ3_KIND_INT_OCTAL = 42,
+    OQ3_KIND_INT_OCTAL_EMPTY = 43,
+    OQ3_KIND_INT_DECIMAL = 44,
+    OQ3_KIND_INT_HEXADECIMAL = 46,
+    OQ3_KIND_INT_HEXADECIMAL_EMPTY = 47,
+    OQ3_KIND_FLOAT_BINARY = 48,
+    OQ3_KIND_FLOAT_BINARY_EMPTY = 49,
+    OQ3_KIND_FLOAT_OCTAL = 50,
+    OQ3_KIND_FLOAT_OCTAL_EMPTY = 51,
+    OQ3_KIND_FLOAT_DECIMAL = 52,
+    OQ3_KIND_FLOAT_DECIMAL_EMPTY = 53,
+    OQ3_KIND_FLOAT_HEXADECIMAL = 54,
+    OQ3_KIND_FLOAT_HEXADECIMAL_EMPTY = 55,
+    OQ3_KIND_STR_UNCLOSED = 56,
+    OQ3_KIND_STR = 57,
+    OQ3_KIND_BIT_STR_UNCLOSED = 58,
+    OQ3_KIND_BIT_STR = 59,
+    /* with two underscores side by side */
+    OQ3_KIND_BIT_STR_TWICE_UNCLOSED = 60,
+    OQ3_KIND_BIT_STR_TWICE = 61
+};
+
+/*
+ * A record of the list of tokens: three words. The tokens tile the text: the first starts at 0, each next one where the one before it ends, and
+ * each has at least one byte.
+ */
+typedef struct oq3_token {
+    uint32_t kind;
+    uint32_t length; /* in bytes */
+    uint32_t suffix; /* of a literal: where its suffix starts, from the token's first byte, `length` where it has none; else 0 */
+} oq3_token;
+
+/* How many words a record of a token or of an item has. */
+enum { OQ3_WORDS = 3 };
+
+/*
+ * The tokens of a text: OQ3_WORDS words for each, in order, from list[0] on. `words` is the room. Refuses with 1, 2, 3 and 4.
+ *
+ * With 0 exactly 3 * also words are written, and those behind them are as they were. A trailing part of a record, where `words` is no multiple
+ * of three, is never written. `also` is in records, in the refusal too: room for `also` records is 3 * also words.
+ *
+ * There are no more tokens than bytes: 3 * text_len words are always enough, and where they are there nothing is counted first, which is
+ * about twice as fast. With less room the text is cut twice, since a refusal must leave the list as it was.
+ *
+ * An array of oq3_token has the same layout as the list: lend (uint32_t *)row and three times its records. So a second function that takes rows
+ * has no C name.
+ */
+oq3_answer oq3_tokenize(const uint8_t *text, size_t text_len, uint32_t profile, uint32_t *list, size_t words);
+
+/* Tests on a character, by its number. No for a number that is no Unicode scalar value. */
+bool oq3_is_whitespace(uint32_t c);
+bool oq3_is_id_start(uint32_t c);
+bool oq3_is_id_continue(uint32_t c);
+
+/* Whether a text is one identifier: also is 1 for yes and 0 for no, as for the empty text. Refuses with 2 and 3. */
+oq3_answer oq3_is_ident(const uint8_t *text, size_t text_len);
+
+/* ---- The renewal key ---------------------------------------------------------------------------------------------------------- */
+
+/*
+ * The key of a text: two accepted texts have the same bytes as key, under one profile, exactly when their tokens other than white space and
+ * closed comments are the same, one by one, in kind, length, suffix start and bytes. Refuses with 1, 2, 3 and 4.
+ *
+ * With 0 exactly `also` bytes are written, from key[0] on, and those behind them are as they were. A key has at most 11 bytes for each
+ * byte of text; where there is room for as many nothing is measured first, which is about twice as fast.
+ */
+oq3_answer oq3_renewal_key(const uint8_t *text, size_t text_len, uint32_t profile, uint8_t *key, size_t key_len);
+
+/* ---- The bodies of literals --------------------------------------------------------------------------------------------------- */
+
+/* What the body, which has no quotes, is the body of. */
+enum {
+    OQ3_MODE_CHAR = 0,
+    OQ3_MODE_STR = 1,
+    OQ3_MODE_BYTE = 2,
+    OQ3_MODE_BIT_STR = 3,
+    OQ3_MODE_BYTE_STR = 4,
+    OQ3_MODE_RAW_STR = 5,
+    OQ3_MODE_RAW_BYTE_STR = 6
+};
+
+/* The errors of a body, and two warnings. */
+enum {
+    OQ3_ERROR_ZERO_CHARS = 1,
+    OQ3_ERROR_MORE_THAN_ONE_CHAR = 2,
+    OQ3_ERROR_LONE_SLASH = 3,
+    OQ3_ERROR_INVALID_ESCAPE = 4,
+    OQ3_ERROR_BARE_CARRIAGE_RETURN = 5,
+    OQ3_ERROR_BARE_CARRIAGE_RETURN_IN_RAW_STRING = 6,
+    OQ3_ERROR_ESCAPE_ONLY_CHAR = 7,
+    OQ3_ERROR_TOO_SHORT_HEX_ESCAPE = 8,
+    OQ3_ERROR_INVALID_CHAR_IN_HEX_ESCAPE = 9,
+    OQ3_ERROR_OUT_OF_RANGE_HEX_ESCAPE = 10, /* known to oq3_is_fatal, given by nothing */
+    OQ3_ERROR_NO_BRACE_IN_UNICODE_ESCAPE = 11,
+    OQ3_ERROR_INVALID_CHAR_IN_UNICODE_ESCAPE = 12,
+    OQ3_ERROR_EMPTY_UNICODE_ESCAPE = 13,
+    OQ3_ERROR_UNCLOSED_UNICODE_ESCAPE = 14,
+    OQ3_ERROR_LEADING_UNDERSCORE_UNICODE_ESCAPE = 15,
+    OQ3_ERROR_OVERLONG_UNICODE_ESCAPE = 16,
+    OQ3_ERROR_LONE_SURROGATE_UNICODE_ESCAPE = 17,
+    OQ3_ERROR_OUT_OF_RANGE_UNICODE_ESCAPE = 18,
+    OQ3_ERROR_UNICODE_ESCAPE_IN_BYTE = 19,
+    OQ3_ERROR_NON_ASCII_CHAR_IN_BYTE = 20,
+    OQ3_WARNING_UNSKIPPED_WHITESPACE = 21,
+    OQ3_WARNING_MULTIPLE_SKIPPED_LINES = 22
+};
+
+/* Where the outcomes begin that are no characters: an outcome is a code point, or this plus the number of an error or warning. */
+#define OQ3_NO_CHAR UINT32_C(1114112)
+
+/* A record of the list of items: three words. Places count bytes from the body's first. */
+typedef struct oq3_item {
+    uint32_t start;
+    uint32_t end;
+    uint32_t outcome;
+} oq3_item;
+
+/*
+ * The items of a body: OQ3_WORDS words for each, in order. `words` is the room. Refuses with 1, 2, 3 and 4.
+ *
+ * What is written, and what `also` counts, is as with oq3_tokenize; an array of oq3_item may be lent. There are no more items than bytes, but for the
+ * one item of an empty body in OQ3_MODE_CHAR or OQ3_MODE_BYTE: 3 * (body_len + 1) words are always enough, and where they are there
+ * nothing is counted first.
+ */
+oq3_answer oq3_unescape_literal(const uint8_t *body, size_t body_len, uint32_t mode, uint32_t *list, size_t words);
+
+/*
+ * The same for a body that stands in a text, from the byte `from` up to, and without, the byte `to`. `to` is first brought down to text_len, and
+ * `from` to that. The checks are of the body alone. Spans count from the body's first byte.
+ */
+oq3_answer oq3_unescape_part(const uint8_t *text, size_t text_len, size_t from, size_t to, uint32_t mode, uint32_t *list, size_t words);
+
+/* The one character of a body of a character or byte literal: also is the outcome, as an item has it. Refuse with 2 and 3. */
+oq3_answer oq3_unescape_char(const uint8_t *text, size_t text_len);
+oq3_answer oq3_unescape_byte(const uint8_t *text, size_t text_len);
+
+/* The low eight bits. */
+uint8_t oq3_byte_from_char(uint32_t c);
+
+/* Tests on a mode: also is 1 for yes and 0 for no. Refuse with 1. */
+oq3_answer oq3_in_double_quotes(uint32_t mode);
+oq3_answer oq3_characters_should_be_ascii(uint32_t mode);
+oq3_answer oq3_is_unicode_escape_disallowed(uint32_t mode);
+
+/* also is the length of the prefix of a literal that is not raw: 1 for `b`, else 0. Refuses with 1. */
+oq3_answer oq3_prefix_noraw(uint32_t mode);
+
+/* Whether the error of this number, 1 to 22, is one: also is 0 for the two warnings and else 1. Refuses with 1. */
+oq3_answer oq3_is_fatal(uint32_t error);
+
+/* ---- Texts and characters ----------------------------------------------------------------------------------------------------- */
+
+/* The checks that the entries begin with, by themselves: 2 and 3; and before them 1 for the profile. With 0 also is 0. */
+oq3_answer oq3_check_text(const uint8_t *text, size_t text_len);
+oq3_answer oq3_check_cut(const uint8_t *text, size_t text_len, uint32_t profile);
+
+/* The length of a text's longest well-formed beginning, in bytes: text_len for UTF-8. */
+size_t oq3_valid_up_to(const uint8_t *text, size_t text_len);
+
+/* A character, and how many bytes it takes. */
+typedef struct oq3_char {
+    uint32_t code;
+    size_t wide;
+} oq3_char;
+
+/*
+ * The character at a place: 0 and 0 at or past the end. A byte that begins no well-formed sequence is OQ3_NO_CHAR more than itself, one byte
+ * wide.
+ */
+oq3_char oq3_decode(const uint8_t *text, size_t text_len, size_t at);
+
+#ifdef __cplusplus
+}
+#endif
+
+#endif
