@@ -89,5 +89,16 @@ write("h-white-space", lambda: r.choice([" ", "    ", "\n", "\n\n", "\t", "     
 cjk = [chr(c) for c in range(0x4E00, 0x4F00)]
 write("i-cjk", lambda: "".join(r.choice(cjk) for _ in range(r.randrange(1, 7))) + r.choice([" ", ";"]))
 write("j-emoji", lambda: "".join(chr(r.randrange(0x1F600, 0x1F640)) for _ in range(r.randrange(1, 5))) + " ")
-for f in sorted(os.listdir(out)):
-    print(f, os.path.getsize(os.path.join(out, f)))
+
+# bodies of literals, each with its mode first in its name: 1 is Str, 4 ByteStr
+bodies = os.path.join(out, "bodies")
+os.makedirs(bodies, exist_ok=True)
+escapes = ["\\n", "\\r", "\\t", "\\\\", "\\'", '\\"', "\\0", "\\x41", "\\u{3b8}", "\\u{1F6_00}", "\\\n    ", "\\q"]
+write("bodies/1-plain", lambda: r.choice(words) + " ")
+write("bodies/1-escapes", lambda: r.choice(escapes) + r.choice(words)[: r.randrange(3)])
+write("bodies/1-greek", lambda: "".join(r.choice(greek) for _ in range(r.randrange(1, 9))) + " ")
+write("bodies/4-bytes", lambda: r.choice(words) + r.choice([" ", " ", "\\n", "\\x7F", "\\xFF", "\\\\", "\\0"]))
+for folder in (out, bodies):
+    for f in sorted(os.listdir(folder)):
+        if os.path.isfile(os.path.join(folder, f)):
+            print(f, os.path.getsize(os.path.join(folder, f)))
