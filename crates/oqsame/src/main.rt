@@ -3,12 +3,10 @@
 //
 // It writes to standard output
 //     same
-// or, of the first counted token that differs, its number from 1 and where it stands in each file (`end` where a file has no
-// more; places and lengths in bytes, lines and columns from 1, a column being a character)
+// or, on the line behind `different`, the first counted token that differs: its number from 1 and where it stands in each file
+// (`end` where a file has no more; places and lengths in bytes, lines and columns from 1, a column being a character)
 //     different
-//     token NUMBER
-//     old kind KIND start START length LENGTH line LINE column COLUMN
-//     new end
+//     token NUMBER, old kind KIND start START length LENGTH line LINE column COLUMN, new end
 // or the answer to a file that is refused, with its name
 //     refused NUMBER ALSO NAME
 // What keeps it from comparing goes to standard error. It has no exit status of its own: the launcher gives 0 for same, 1 for
@@ -45,7 +43,7 @@ fn print_number(label: &[u8], number: u64) {
 fn print_sight(label: &[u8], text: &[u8], sight: Sight) {
     print(label);
     if sight.len == 0 {
-        print(b" end\n");
+        print(b" end");
         return;
     }
     let place = same::place_of(text, sight.start);
@@ -54,7 +52,6 @@ fn print_sight(label: &[u8], text: &[u8], sight: Sight) {
     print_number(b" length ", sight.len as u64);
     print_number(b" line ", place.line as u64);
     print_number(b" column ", place.column as u64);
-    print(b"\n");
 }
 
 fn print_refusal(name: &[u8], given: Answer) {
@@ -81,9 +78,9 @@ fn compare_texts(old: &[u8], old_name: &[u8], new: &[u8], new_name: &[u8]) {
     }
     print(b"different\n");
     print_number(b"token ", std::num::wrapping_add_u64(c.agreed as u64, 1));
+    print_sight(b", old", old, c.old);
+    print_sight(b", new", new, c.new);
     print(b"\n");
-    print_sight(b"old", old, c.old);
-    print_sight(b"new", new, c.new);
 }
 
 // Whether the file ends where reading stopped; if not, why it cannot be compared.

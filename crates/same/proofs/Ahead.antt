@@ -11,7 +11,7 @@ use Rattle.lexer.specs.Kinds.{eof}
 use Rattle.lexer.specs.Cut.{Letters, Tok}
 use Rattle.lexer.specs.Steps.{Advanced}
 use Rattle.lexer.proofs.Whole.{tokens-at}
-use Rattle.renewal.specs.Members.{isCounted, memberOf, counted, membersBy}
+use Rattle.tokens.specs.Members.{isCounted, memberOf, counted, membersBy}
 use Rattle.renewal.specs.Steps.{cutBy}
 use Rattle.renewal.proofs.Cutter.{cutter}
 use Rattle.same.specs.Compare.{sights}

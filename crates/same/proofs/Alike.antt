@@ -11,7 +11,7 @@ use lib.ListN.{length, take, drop, getD, length-drop, drop-of-length-le}
 use lib.Seq.{drop-cons, length-take-le, take-length}
 use borrow.Author.Tests.{eqb-true, eq-eqb, ne-eqb}
 use Rattle.lists.proofs.Bools.{by-test, both, and-false}
-use Rattle.renewal.specs.Members.{Member}
+use Rattle.tokens.specs.Members.{Member}
 use Rattle.same.specs.Compare.{sameBytes, alike, agree}
 use Rattle.same.specs.Steps.{Within, memberAt}
 

@@ -13,7 +13,7 @@ use borrow.Author.Tests.{eqb-true, eq-eqb, not-true, not-false}
 use Rattle.lists.proofs.Bools.{by-test, both}
 use Rattle.lexer.specs.Kinds.{eof}
 use Rattle.lexer.specs.Cut.{Tok}
-use Rattle.renewal.specs.Members.{Member, membersBy}
+use Rattle.tokens.specs.Members.{Member, membersBy}
 use Rattle.same.specs.Compare.{Sight, Compared, alike, agree, sights, endOf, same, different, partedBy}
 use Rattle.same.specs.Steps.{memberAt, sightAt, membersFrom, sightsFrom, Ahead, showing}
 use Rattle.same.proofs.Alike.{alike-equal, alike-self, agree-more, agree-stop}

@@ -11,7 +11,7 @@ use Rattle.lexer.specs.Cut.{Tok}
 use Rattle.lexer.specs.Outcome.{tokensOf}
 use Rattle.tokens.specs.Tiling.{Each, Formed}
 use Rattle.tokens.proofs.Tiling.{tiles}
-use Rattle.renewal.specs.Members.{Member, isCounted, memberOf, counted, membersBy, membersOf}
+use Rattle.tokens.specs.Members.{Member, isCounted, memberOf, counted, membersBy, membersOf}
 use Rattle.same.specs.Compare.{Sight, sights, endOf, shows}
 
 shows-from : (s : List ℕ) (at : ℕ) (ts : List Tok) → Each Formed ts → shows s (sights at ts) (counted (drop at s) ts)

@@ -16,7 +16,7 @@ use Rattle.lexer.specs.Cut.{Letters}
 use Rattle.lexer.specs.Unicode.{lent}
 use Rattle.lexer.specs.Outcome.{tokensOf}
 use Rattle.lexer.proofs.Unicode.{lent-is}
-use Rattle.renewal.specs.Members.{Member, membersOf}
+use Rattle.tokens.specs.Members.{Member, membersOf}
 use Rattle.renewal.specs.Key.{keyOfText}
 use Rattle.renewal.specs.Steps.{cutBy}
 use Rattle.renewal.proofs.Exactly.{exactly-when}

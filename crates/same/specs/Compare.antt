@@ -10,7 +10,7 @@ use Rattle.text.specs.Answer.{done, checkCut}
 use Rattle.lexer.specs.Kinds.{eof}
 use Rattle.lexer.specs.Cut.{Tok}
 use Rattle.lexer.specs.Outcome.{tokensOf}
-use Rattle.renewal.specs.Members.{Member, isCounted, membersBy}
+use Rattle.tokens.specs.Members.{Member, isCounted, membersBy}
 
 -- ---- how far two lists of counted tokens agree
 unfoldable pub sameBytes : List ℕ → List ℕ → Bool

@@ -6,7 +6,7 @@ use Prim.Native.Nat.{ℕ, _-_, _≤_, _<_}
 use lib.ListN.{length, take, drop}
 use Rattle.lexer.specs.Kinds.{eof}
 use Rattle.lexer.specs.Cut.{Tok}
-use Rattle.renewal.specs.Members.{Member, membersBy}
+use Rattle.tokens.specs.Members.{Member, membersBy}
 use Rattle.text.specs.Answer.{done}
 use Rattle.same.specs.Compare.{Sight, Comparison, sights}
 

@@ -4,7 +4,7 @@ ghost use Prim.Native.Nat.{_≤_};
 ghost use lib.ListN.{length};
 ghost use Rattle.lexer.specs.Unicode.{lent};
 ghost use Rattle.lexer.specs.Outcome.{tokensOf};
-ghost use Rattle.renewal.specs.Members.{isCounted};
+ghost use Rattle.tokens.specs.Members.{isCounted};
 ghost use Rattle.renewal.specs.Steps.{cutBy};
 ghost use Rattle.same.specs.Compare.{sameBytes, alike, partedBy, Compared};
 ghost use Rattle.same.specs.Steps.{Within, memberAt, sightAt, Ahead, showing};

@@ -1,5 +1,5 @@
 use borrow.Author.Tests.{ne-eqb}
-use Rattle.renewal.specs.Members.{isCounted}
+use Rattle.tokens.specs.Members.{isCounted}
 use Rattle.same.proofs.walk.is_counted.Statement.{statement}
 use Rattle.same.proofs.walk.is_counted.Tie as tie
 
