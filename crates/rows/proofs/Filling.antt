@@ -1,0 +1,108 @@
+-- The tokens of a text stored one by one: the place behind i of them, and the row then.
+-- Assumes nothing.
+use Prim.Native.Nat.{ℕ, zero, suc, _+_, _≤_, _<_}
+use native.Mathlib.Omega.{arith}
+use native.Mathlib.Nat.{zero-add}
+use mathlib.Core.Path.{_≡_, refl, sym, ap, _∙_}
+use mathlib.Core.List.{List, [], _∷_, _++_}
+use lib.ListN.{length, drop, set, length-set, length-drop}
+use lib.Seq.{sets, sets-eq, drop-drop}
+use lib.Dec.{ltb}
+use borrow.Author.Tests.{ltb-true, ltb-false}
+use Rattle.lists.proofs.Bools.{by-test}
+use Rattle.unicode.specs.Utf8.{chars}
+use Rattle.unicode.specs.Text.{left}
+use Rattle.unicode.proofs.Text.{point-at, left-end, bytes-chars}
+use Rattle.lexer.specs.Cut.{Letters, Tok, piece, tokens}
+use Rattle.lexer.proofs.Shapes.{tokens-nil}
+use Rattle.tokens.specs.Tiling.{total}
+use Rattle.tokens.proofs.First.{tokens-first}
+use Rattle.tokens.proofs.Tiling.{tiles-chars}
+use Rattle.rows.specs.Rows.{recordOf, records}
+use Rattle.rows.specs.Steps.{firstOf, recordAt, placeAfter, recordNo, rowAfter, Filled}
+use Rattle.rows.specs.declared.Token.{Token}
+
+pub length-records : (ts : List Tok) → length (records ts) ≡ length ts
+unfolding records
+length-records [] = refl
+length-records (t ∷ ts) = ap suc (length-records ts)
+
+module _ (u : Letters) (profile : ℕ) (s : List ℕ) where
+  abbrev from : ℕ → List Tok
+  from at = tokens u profile (left s at)
+
+  -- the token at a place before the end
+  record Stepped (at : ℕ) : Type 0 where
+    pub front : Tok
+    pub first-is : recordAt u profile s at ≡ recordOf front
+    pub tokens-are : from at ≡ front ∷ from (at + front .len)
+    pub within : at + front .len ≤ length s
+
+  stepped : (at : ℕ) → at < length s → Stepped at
+  unfolding firstOf
+  stepped at h =
+      let c = point-at s at h in
+      let p = piece u profile _ _ .0 in
+      let e : from at ≡ p ∷ tokens u profile (chars (drop (p .len) (drop at s))) = tokens-first u profile _ _ (drop at s) (c .view) in
+      let f : from at ≡ p ∷ from (at + p .len) = e ∙ rw drop-drop in
+      record {
+        front = p;
+        first-is = rw f;
+        tokens-are = f;
+        within = omega (arith, ap total f, tiles-chars u profile (left s at) .all, bytes-chars (drop at s), length-drop at s);
+      }
+
+  -- i tokens are stored in a row: to go on from here comes to the same
+  pub record Filling (row : List Token) (i : ℕ) : Type 0 where
+    pub within : placeAfter u profile s i ≤ length s
+    pub count : i + length (from (placeAfter u profile s i)) ≡ length (tokens u profile (chars s))
+    pub same : sets (rowAfter u profile s row i) i (records (from (placeAfter u profile s i))) ≡ sets row 0 (records (tokens u profile (chars s)))
+
+  -- at the end no token is left
+  pub none-left : (at : ℕ) → length s ≤ at → from at ≡ []
+  none-left at h = ap (tokens u profile) (left-end s at h) ∙ tokens-nil u profile
+
+  filling-on : (row : List Token) (i : ℕ) → Filling row i → placeAfter u profile s i < length s → Filling row (suc i)
+  unfolding records
+  filling-on row i f h =
+      let at = placeAfter u profile s i in
+      let d = stepped at h in
+      let e : from at ≡ d .front ∷ from (at + recordAt u profile s at .len) = d .tokens-are ∙ rw (d .first-is) in
+      record {
+        within = omega (arith, d .within, ap (λ (r : Token). r .len) (d .first-is));
+        count = omega (arith, f .count, ap length e);
+        same = (rw (d .first-is) (ap (λ (ts : List Tok). sets (rowAfter u profile s row i) i (records ts)) (sym (d .tokens-are)))) ∙ f .same;
+      }
+
+  pub filling : (row : List Token) (i : ℕ) → i ≤ length (tokens u profile (chars s)) → Filling row i
+  filling row zero h = record { within = omega arith; count = omega arith; same = refl }
+  filling row (suc i) h =
+      let f = filling row i (omega (arith, h)) in
+      by-test (ltb (placeAfter u profile s i) (length s))
+      (λ t. filling-on row i f (ltb-true _ _ t))
+      (λ t. absurd (omega (arith, h, f .count, ap length (none-left (placeAfter u profile s i) (ltb-false _ _ t)))))
+
+  -- ---- as the walk by hand asks them
+  module _ (row : List Token) where
+    pub row-length : (i : ℕ) → length (rowAfter u profile s row i) ≡ length row
+    row-length zero = refl
+    row-length (suc i) = length-set (rowAfter u profile s row i) i (recordNo u profile s i) ∙ row-length i
+
+    pub not-all : (i : ℕ) → i ≤ length (tokens u profile (chars s)) → placeAfter u profile s i < length s → i < length (tokens u profile (chars s))
+    not-all i h l = omega (arith, filling row i h .count, ap length (stepped (placeAfter u profile s i) l .tokens-are))
+
+    pub next-within : (i : ℕ) → i < length (tokens u profile (chars s)) → placeAfter u profile s (suc i) ≤ length s
+    next-within i h = filling row (suc i) (omega (arith, h)) .within
+
+    pub all-stored : (i : ℕ) → i ≤ length (tokens u profile (chars s)) → length s ≤ placeAfter u profile s i → length (tokens u profile (chars s)) ≤ length row →
+        Filled u profile s row i (rowAfter u profile s row i)
+    unfolding records
+    all-stored i h l r =
+        let f = filling row i h in
+        let z = none-left (placeAfter u profile s i) l in
+        let n : i ≡ length (tokens u profile (chars s)) = omega (arith, f .count, ap length z) in
+        let k = length-records (tokens u profile (chars s)) in
+        let e : sets (rowAfter u profile s row i) i (records (from (placeAfter u profile s i))) ≡ rowAfter u profile s row i = rw z in
+        let g : sets row 0 (records (tokens u profile (chars s))) ≡ records (tokens u profile (chars s)) ++ drop i row =
+        sets-eq (records (tokens u profile (chars s))) row 0 (omega (arith, k, r)) ∙ rw (zero-add, k, ← n) in
+        record { count = n; row-is = sym e ∙ f .same ∙ g }

@@ -1,0 +1,47 @@
+-- Wrong programs that the promise of `tokenize_rows` rules out: at one call each, what the program would leave is not allowed.
+-- Assumes nothing.
+use Prim.Native.Nat.{ℕ, _*_}
+use native.Mathlib.Omega.{arith}
+use mathlib.Core.Path.{_≡_, refl, ap, _∙_}
+use mathlib.Core.List.{List, [], _∷_}
+use lib.ListN.{length, getD}
+use borrow.Author.Tests.{ne-eqb}
+use Rattle.lists.specs.All.{all}
+use Rattle.lists.specs.Cut.{pieces, cut}
+use Rattle.lists.specs.Eat.{eat}
+use Rattle.unicode.specs.Ranges.{inTable}
+use Rattle.unicode.specs.Ucd.{xidStart, xidContinue, emoji}
+use Rattle.unicode.specs.Utf8.{table, behind, begins, joined, readBy, first, next, chars, width, goodBytes, validUpTo}
+use Rattle.unicode.specs.Text.{bytes, skip}
+use Rattle.text.specs.Answer.{checkText, checkCut}
+use Rattle.lexer.specs.Chars.{whitespace}
+use Rattle.lexer.specs.Kinds.{marks, markIn}
+use Rattle.lexer.specs.Cut.{isDigit, advance, piece, tokens}
+use Rattle.lexer.specs.Unicode.{unicode}
+use Rattle.lexer.specs.Outcome.{tokensOf, outcome}
+use Rattle.rows.specs.Rows.{records, rowed, Rowed}
+use Rattle.rows.specs.declared.Token.{Token}
+
+abbrev semicolon : List ℕ
+semicolon = 0x3B ∷ []
+
+abbrev seven : Token
+seven = record { kind = 7; len = 7; suffix = 7 }
+
+-- a semicolon in a row of two records: the first is its token, and the second is as it was
+leaves : rowed semicolon 0 (seven ∷ seven ∷ []) ≡ record { kind = 10; len = 1; suffix = 0 } ∷ seven ∷ []
+unfolding all pieces cut eat inTable xidStart xidContinue emoji table behind begins joined readBy first next chars width goodBytes validUpTo bytes skip checkText checkCut whitespace marks markIn unicode tokensOf outcome isDigit advance piece tokens records rowed
+leaves = refl
+
+-- nothing written
+pub rules-out-writing-nothing : {n a : ℕ} → Rowed semicolon 0 (seven ∷ seven ∷ []) n a (seven ∷ seven ∷ []) → ⊥
+rules-out-writing-nothing p = let e : _≡_ {A = ℕ} 7 10 = ap (λ (x : List Token). getD x 0 seven .kind) (p .row-is ∙ leaves) in omega arith
+
+-- a record more than there are tokens
+pub rules-out-one-more : {n a : ℕ} {t : Token} → Rowed semicolon 0 (seven ∷ seven ∷ []) n a (record { kind = 10; len = 1; suffix = 0 } ∷ t ∷ []) → t ≡ seven
+rules-out-one-more p = ap (λ (x : List Token). getD x 1 seven) (p .row-is ∙ leaves)
+
+-- a refusal that writes, at any text, profile and row: a refused call leaves the row as it was
+pub rules-out-refusal-writes : {s : List ℕ} {profile : ℕ} {row : List Token} {n a : ℕ} {l : List Token} → Rowed s profile row n a l → (n ≡ 0 → ⊥) → l ≡ row
+unfolding rowed
+rules-out-refusal-writes {s} {profile} {row} p h = p .row-is ∙ rw (ne-eqb (outcome s profile (3 * length row) .0) 0 (λ e. h (p .answer .number-is ∙ e)))

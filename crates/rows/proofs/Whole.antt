@@ -1,0 +1,163 @@
+-- The answer and the row of a whole call.
+-- Assumes nothing.
+use Prim.Native.Nat.{ℕ, _-_, _*_, _/_, _≤_, _<_}
+use native.Mathlib.Omega.{arith}
+use mathlib.Core.Path.{_≡_, sym, _∙_, subst}
+use mathlib.Core.Bool.{true, false, cond}
+use mathlib.Core.List.{List, [], _∷_}
+use lib.Dec.{ltb, eqb}
+use lib.ListN.{length}
+use borrow.Author.Tests.{ltb-true, ltb-false, lt-ltb, le-ltb, eqb-true, eqb-false, eq-eqb, ne-eqb}
+use Rattle.lists.proofs.Bools.{by-test}
+use Rattle.unicode.specs.Utf8.{chars, validUpTo}
+use Rattle.unicode.specs.Ranges.{flat}
+use Rattle.unicode.specs.Ucd.{xidStart, xidContinue, emoji}
+use Rattle.text.specs.Answer.{Answered, done, roomTooSmall, longest, checkText, checkCut, knownProfile}
+use Rattle.text.proofs.Checks.{cut-accepted}
+use Rattle.lexer.specs.Cut.{Letters, tokens}
+use Rattle.lexer.specs.Unicode.{unicode, lent}
+use Rattle.lexer.specs.Steps.{Advanced}
+use Rattle.lexer.specs.Outcome.{tokensOf, outcome, Listed}
+use Rattle.lexer.proofs.Unicode.{lent-is}
+use Rattle.lexer.proofs.Whole.{tokens-at, few-tokens}
+use Rattle.rows.specs.Rows.{records, rowed, Rowed}
+use Rattle.rows.specs.Steps.{firstOf, recordAt, Judged, Filled}
+use Rattle.rows.specs.declared.Token.{Token}
+use Rattle.rows.proofs.Filling.{length-records, none-left}
+
+-- what `advance_token` says, as a record
+pub token-at : {u : Letters} {profile : ℕ} {s : List ℕ} {at kind mark end : ℕ} → Advanced u profile s at kind mark end →
+    _≡_ {A = Token} (record { kind = kind; len = end - at; suffix = mark - at }) (recordAt u profile s at)
+unfolding firstOf
+token-at {u} {profile} {s} {at} {kind} {mark} {end} a =
+    by-test (ltb at (length s))
+    (λ t. rw (tokens-at u profile (ltb-true at (length s) t) (a .before-end (ltb-true at (length s) t))))
+    (λ t.
+    let e = a .at-end (ltb-false at (length s) t) in
+    let z : end - at ≡ 0 = omega (arith, e .2) in
+    let y : mark - at ≡ 0 = omega (arith, e .1) in
+    rw (none-left u profile s at (ltb-false at (length s) t), z, y, e .0))
+
+-- ---- the checks
+-- of these no refusal is 4
+below-four : (s : List ℕ) (p : ℕ) → checkCut s p .0 < 4
+unfolding checkCut checkText
+below-four s p =
+    by-test (ltb p 2)
+    (λ a. by-test (ltb longest (length s)) (λ b. rw (a, b) (omega arith)) (λ b. by-test (ltb (validUpTo s) (length s)) (λ d. rw (a, b, d) (omega arith)) (λ d. rw (a, b, d) (omega arith))))
+    (λ a. rw a (omega arith))
+
+thirds : (room : ℕ) → 3 * room / 3 ≡ room
+thirds room = omega arith
+
+-- how many records are needed
+abbrev need : List ℕ → ℕ → ℕ
+need s profile = length (tokensOf profile s)
+
+-- refusal 4 is of the room alone, with the need
+told-need : {s list′ : List ℕ} {profile number also : ℕ} → Listed s profile (0 ∷ []) number also list′ → number ≡ roomTooSmall → (checkCut s profile .0 ≡ done) × (also ≡ (need s profile))
+unfolding outcome
+told-need {s} {profile = profile} {number} l n =
+    by-test (eqb (checkCut s profile .0) done)
+    (λ t. by-test (ltb 0 (need s profile))
+    (λ b. (eqb-true _ _ t, rw (t, b) at (l .answer .also-is)))
+    (λ b. (eqb-true _ _ t, rw (t, b) at (l .answer .also-is))))
+    (λ t.
+    let e : number ≡ checkCut s profile .0 = rw t at (l .answer .number-is) in
+    absurd (omega (arith, below-four s profile, e, n)))
+
+module _ {s : List ℕ} {profile room number also : ℕ} where
+  pub judged-roomy : length s ≤ room → Answered (checkCut s profile) number also → Judged s profile room number also
+  unfolding outcome tokensOf
+  judged-roomy h a =
+      by-test (eqb (checkCut s profile .0) done)
+      (λ t.
+      let z : number ≡ done = a .number-is ∙ eqb-true _ _ t in
+      record {
+        number-is = rw (t, thirds room, le-ltb room (length (tokens unicode profile (chars s))) (omega (arith, few-tokens unicode profile s))) z;
+        also-is = λ n. absurd (n z);
+      })
+      (λ t. record { number-is = rw t (a .number-is); also-is = λ n. rw t (a .also-is) })
+
+  -- what `tokenize` says with room for no record
+  pub judged-told : {list′ : List ℕ} → Listed s profile (0 ∷ []) number also list′ → (number ≡ roomTooSmall → ⊥) → Judged s profile room number also
+  unfolding outcome
+  judged-told l n =
+      by-test (eqb (checkCut s profile .0) done)
+      (λ t. by-test (ltb 0 (need s profile))
+      (λ b. absurd (n (rw (t, b) at (l .answer .number-is))))
+      (λ b.
+      let z : number ≡ done = rw (t, b) at (l .answer .number-is) in
+      record {
+        number-is = rw (t, thirds room, le-ltb room (need s profile) (omega (arith, ltb-false 0 (need s profile) b))) z;
+        also-is = λ m. absurd (m z);
+      }))
+      (λ t. record { number-is = rw t (rw t at (l .answer .number-is)); also-is = λ m. rw t (rw t at (l .answer .also-is)) })
+
+  pub judged-short : {list′ : List ℕ} → Listed s profile (0 ∷ []) number also list′ → number ≡ roomTooSmall → room < also → Judged s profile room number also
+  unfolding outcome
+  judged-short l n h =
+      let k = told-need l n in
+      let t = eq-eqb _ _ (k .0) in
+      let b : ltb room (need s profile) ≡ true = lt-ltb room (need s profile) (omega (arith, k .1, h)) in
+      record { number-is = rw (t, thirds room, b) n; also-is = λ m. rw (t, thirds room, b) (k .1) }
+
+  pub judged-done : {list′ : List ℕ} {n : ℕ} → Listed s profile (0 ∷ []) n also list′ → n ≡ roomTooSmall → also ≤ room → number ≡ done → Judged s profile room number also
+  unfolding outcome
+  judged-done l n h z =
+      let k = told-need l n in
+      let t = eq-eqb _ _ (k .0) in
+      let b : ltb room (need s profile) ≡ false = le-ltb room (need s profile) (omega (arith, k .1, h)) in
+      record { number-is = rw (t, thirds room, b) z; also-is = λ m. absurd (m z) }
+
+-- ---- the whole call
+-- what is refused leaves the row as it was
+pub rowed-refused : {s : List ℕ} {profile number also : ℕ} {row : List Token} → Judged s profile (length row) number also → (number ≡ done → ⊥) → Rowed s profile row number also row
+unfolding rowed
+rowed-refused {row = row} j n =
+    record {
+      answer = record { number-is = j .number-is; also-is = j .also-is n };
+      row-is = rw (ne-eqb _ _ (λ z. n (j .number-is ∙ z)));
+    }
+
+module _ {s : List ℕ} {profile number also : ℕ} (row : List Token) (j : Judged s profile (length row) number also) (z : number ≡ done) where
+  -- what passes: the checks are done, and the row has room
+  passes : (checkCut s profile .0 ≡ done) × (need s profile ≤ length row)
+  unfolding outcome
+  passes =
+      by-test (eqb (checkCut s profile .0) done)
+      (λ t. (
+        eqb-true _ _ t,
+        by-test (ltb (3 * length row / 3) (need s profile))
+            (λ b. let e : number ≡ roomTooSmall = rw (t, b) at (j .number-is) in absurd (omega (arith, e, z)))
+            (λ b. omega (arith, ltb-false (3 * length row / 3) (need s profile) b, thirds (length row))),
+      ))
+      (λ t. let e : number ≡ checkCut s profile .0 = rw t at (j .number-is) in absurd (eqb-false _ _ t (sym e ∙ z)))
+
+  pub judged-passed : (length s ≤ longest) × (length (tokens unicode profile (chars s)) ≤ length row)
+  unfolding tokensOf
+  judged-passed = (cut-accepted s profile (passes .0) .1 .short, passes .1)
+
+  outcome-is : outcome s profile (3 * length row) ≡ (done, need s profile)
+  unfolding outcome
+  outcome-is = rw (eq-eqb _ _ (passes .0), thirds (length row), le-ltb (length row) (need s profile) (passes .1))
+
+  pub rowed-done : {n number′ also′ : ℕ} {row′ : List Token} → Filled unicode profile s row n row′ → Answered (done, n) number′ also′ → Rowed s profile row number′ also′ row′
+  unfolding tokensOf rowed
+  rowed-done {n} f a =
+      let k : length (records (tokens unicode profile (chars s))) ≡ n = length-records (tokens unicode profile (chars s)) ∙ sym (f .count) in
+      record {
+        answer = rw outcome-is (record { number-is = a .number-is; also-is = a .also-is ∙ f .count });
+        row-is = rw (outcome-is, k) (f .row-is);
+      }
+
+-- ---- the tables as they are handed over
+module _ {starts mores emojis : List ℕ} (a : starts ≡ flat xidStart) (b : mores ≡ flat xidContinue) (c : emojis ≡ flat emoji) where
+  letters-are : lent starts mores emojis ≡ unicode
+  letters-are = rw (a, b, c) lent-is
+
+  pub roomy-letters : (profile m : ℕ) (s : List ℕ) → length (tokens unicode profile (chars s)) ≤ m → length (tokens (lent starts mores emojis) profile (chars s)) ≤ m
+  roomy-letters profile m s h = subst (λ (u : Letters). length (tokens u profile (chars s)) ≤ m) (sym letters-are) h
+
+  pub filled-letters : {profile n : ℕ} {s : List ℕ} {row row′ : List Token} → Filled (lent starts mores emojis) profile s row n row′ → Filled unicode profile s row n row′
+  filled-letters {profile} {n} {s} {row} {row′} f = subst (λ (u : Letters). Filled u profile s row n row′) letters-are f

@@ -1,0 +1,36 @@
+-- What `tokenize_rows` answers, and what it leaves in the row of records that it was lent.
+-- Assumes nothing.
+use Prim.Native.Nat.{ℕ, _*_}
+use mathlib.Core.Path.{_≡_}
+use mathlib.Core.Bool.{cond}
+use mathlib.Core.List.{List, [], _∷_, _++_}
+use lib.Dec.{eqb}
+use lib.ListN.{length, drop}
+use Rattle.text.specs.Answer.{Answered, done}
+use Rattle.lexer.specs.Cut.{Tok}
+use Rattle.lexer.specs.Outcome.{tokensOf, outcome}
+use Rattle.rows.specs.declared.Token.{Token}
+
+-- the record of a token: its kind, its length in bytes, its suffix start
+abbrev pub recordOf : Tok → Token
+recordOf t = record { kind = t .kind; len = t .len; suffix = t .suff }
+
+unfoldable pub records : List Tok → List Token
+records [] = []
+records (t ∷ ts) = recordOf t ∷ records ts
+
+-- the records of the tokens, and behind them what stood there; a refusal changes nothing
+unfoldable pub rowed : List ℕ → ℕ → List Token → List Token
+rowed s profile row =
+    let new = records (tokensOf profile s) in
+    cond (eqb (outcome s profile (3 * length row) .0) done) (new ++ drop (length new) row) row
+
+-- the answer is that of `tokenize`, for a list of three words for each record of the row
+pub record Rowed (s : List ℕ) (profile : ℕ) (row : List Token) (number also : ℕ) (row′ : List Token) : Type 0 where
+  pub answer : Answered (outcome s profile (3 * length row)) number also
+  pub row-is : row′ ≡ rowed s profile row
+
+-- ---- a row as flat words: record i is the words 3i to 3i + 2
+unfoldable pub words : List Token → List ℕ
+words [] = []
+words (t ∷ ts) = t .kind ∷ t .len ∷ t .suffix ∷ words ts

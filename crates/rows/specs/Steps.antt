@@ -1,0 +1,44 @@
+-- What the functions behind `tokenize_rows` ask and answer.
+-- Assumes nothing.
+use Prim.Native.Nat.{ℕ, zero, suc, _+_, _*_}
+use mathlib.Core.Path.{_≡_}
+use mathlib.Core.List.{List, [], _∷_, _++_}
+use lib.ListN.{length, drop, set}
+use Rattle.unicode.specs.Utf8.{chars}
+use Rattle.unicode.specs.Text.{left}
+use Rattle.text.specs.Answer.{done}
+use Rattle.lexer.specs.Cut.{Tok, Letters, tokens}
+use Rattle.lexer.specs.Outcome.{outcome}
+use Rattle.rows.specs.Rows.{recordOf, records}
+use Rattle.rows.specs.declared.Token.{Token}
+
+-- the checks: what is also returned is fixed where they refuse
+pub record Judged (s : List ℕ) (profile room number also : ℕ) : Type 0 where
+  pub number-is : number ≡ outcome s profile (3 * room) .0
+  pub also-is : ((number ≡ done → ⊥) → also ≡ outcome s profile (3 * room) .1)
+
+-- the record of the first of some tokens; of none a record of noughts
+unfoldable pub firstOf : List Tok → Token
+firstOf [] = record { kind = 0; len = 0; suffix = 0 }
+firstOf (t ∷ ts) = recordOf t
+
+-- the record of the token at a place
+abbrev pub recordAt : Letters → ℕ → List ℕ → ℕ → Token
+recordAt u profile s at = firstOf (tokens u profile (left s at))
+
+-- the place behind i tokens, the record there, and the row when those before it are stored
+abbrev pub placeAfter : Letters → ℕ → List ℕ → ℕ → ℕ
+placeAfter u profile s zero = 0
+placeAfter u profile s (suc i) = placeAfter u profile s i + recordAt u profile s (placeAfter u profile s i) .len
+
+abbrev pub recordNo : Letters → ℕ → List ℕ → ℕ → Token
+recordNo u profile s i = recordAt u profile s (placeAfter u profile s i)
+
+abbrev pub rowAfter : Letters → ℕ → List ℕ → List Token → ℕ → List Token
+rowAfter u profile s row zero = row
+rowAfter u profile s row (suc i) = set (rowAfter u profile s row i) i (recordNo u profile s i)
+
+-- all tokens are stored, and counted
+pub record Filled (u : Letters) (profile : ℕ) (s : List ℕ) (row : List Token) (n : ℕ) (row′ : List Token) : Type 0 where
+  pub count : n ≡ length (tokens u profile (chars s))
+  pub row-is : row′ ≡ records (tokens u profile (chars s)) ++ drop n row
