@@ -5,7 +5,7 @@ use mathlib.Core.Path.{_≡_}
 use mathlib.Core.Bool.{cond}
 use mathlib.Core.List.{List, [], _∷_, _++_}
 use lib.Dec.{eqb}
-use lib.ListN.{length, drop}
+use lib.ListN.{length, take, drop}
 use Rattle.text.specs.Answer.{Answered, done}
 use Rattle.lexer.specs.Cut.{Tok}
 use Rattle.lexer.specs.Outcome.{tokensOf, outcome}
@@ -34,3 +34,8 @@ pub record Rowed (s : List ℕ) (profile : ℕ) (row : List Token) (number also 
 unfoldable pub words : List Token → List ℕ
 words [] = []
 words (t ∷ ts) = t .kind ∷ t .len ∷ t .suffix ∷ words ts
+
+-- ---- a row by value, of which so many records are lent (all, where there are no more): those are as `tokenize_rows` leaves them, and the others as they were
+pub record Bridged (s : List ℕ) (profile records : ℕ) (row : List Token) (number also : ℕ) (row′ : List Token) : Type 0 where
+  pub lent : Rowed s profile (take records row) number also (take records row′)
+  pub others : drop records row′ ≡ drop records row

@@ -1,7 +1,7 @@
 // The second entry of the tokenizer: the tokens of a text in a lent row of records, one struct each.
 ghost use mathlib.Core.Path.{_≡_};
 ghost use mathlib.Core.Bool.{cond};
-ghost use Prim.Native.Nat.{_≤_, _*_};
+ghost use Prim.Native.Nat.{_≤_, min};
 ghost use lib.Dec.{eqb};
 ghost use lib.ListN.{length};
 ghost use Rattle.unicode.specs.Utf8.{chars};
@@ -10,7 +10,7 @@ ghost use Rattle.unicode.specs.Ucd.{xidStart, xidContinue, emoji};
 ghost use Rattle.text.specs.Answer.{Answered, done, longest};
 ghost use Rattle.lexer.specs.Cut.{tokens};
 ghost use Rattle.lexer.specs.Unicode.{lent};
-ghost use Rattle.rows.specs.Rows.{Rowed};
+ghost use Rattle.rows.specs.Rows.{Rowed, Bridged};
 ghost use Rattle.rows.specs.Steps.{Judged, recordAt, Filled};
 use lexer::advance::advance_token;
 use lexer::list::tokenize;
@@ -129,4 +129,30 @@ pub fn tokenize_rows(text: &[u8], profile: u32, row: &mut [Token]) -> Answer
         a = done_with(fill(text, profile, row, &xid_start(), &xid_continue(), &emoji()));
     }
     a
+}
+
+// A row by value, for a caller that holds no lent slice of structs.
+pub struct Rows {
+    pub answer: Answer,
+    pub row: [Token; 64],
+}
+
+// How many records of such a row are lent: all, where more are asked.
+fn within(records: usize) -> usize
+    ensures { λ r. ⌜ r ≡ min 64 records ⌝ }
+{
+    if records < 64 { records } else { 64 }
+}
+
+// `tokenize_rows` on the first records of a row by value: from plain parameters to a row and back, so that its callers need no proof by hand.
+pub fn rows_of(text: &[u8], profile: u32, row: [Token; 64], records: usize) -> Rows
+    ensures { λ r. ⌜ Bridged (now (text .entry)) profile records row (r .answer .number) (r .answer .also) (r .row) ⌝ }
+{
+    let n = within(records);
+    let mut rows = row;
+    let a = tokenize_rows(text, profile, &mut rows[..n]);
+    Rows {
+        answer: a,
+        row: rows,
+    }
 }
