@@ -29,9 +29,10 @@ module _ (records : ℕ) (xs : List Token) (h : length xs ≡ 64) where
       (λ t. let e : min 64 records ≡ records = omega (arith, ltb-true records 64 t) in (rw e, rw e))
       (λ t.
       let l = ltb-false records 64 t in
-      let e : min 64 records ≡ 64 = omega (arith, l) in
-      (take-all records xs (omega (arith, h, l)) ∙ sym (take-all (min 64 records) xs (omega (arith, h, e))),
-      drop-of-length-le xs {i = records} (omega (arith, h, l)) ∙ sym (drop-of-length-le xs {i = min 64 records} (omega (arith, h, e)))))
+      let e : min 64 records ≡ 64 = omega (arith, l) in (
+        take-all records xs (omega (arith, h, l)) ∙ sym (take-all (min 64 records) xs (omega (arith, h, e))),
+        drop-of-length-le xs {i = records} (omega (arith, h, l)) ∙ sym (drop-of-length-le xs {i = min 64 records} (omega (arith, h, e))),
+      ))
 
   pub lent-length : {n : ℕ} → n ≡ min 64 records → length (take n xs) ≡ n
   lent-length {n} e = length-take-le n xs (omega (arith, h, e))

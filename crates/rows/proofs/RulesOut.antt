@@ -1,10 +1,11 @@
--- Wrong programs that the promise of `tokenize_rows` rules out: at one call each, what the program would leave is not allowed.
+-- Wrong programs that the promises of `tokenize_rows` and `rows_of` rule out: what the program would leave is not allowed.
 -- Assumes nothing.
-use Prim.Native.Nat.{ℕ, _*_}
+use Prim.Native.Nat.{ℕ, _*_, _+_}
 use native.Mathlib.Omega.{arith}
-use mathlib.Core.Path.{_≡_, refl, ap, _∙_}
+use mathlib.Core.Path.{_≡_, refl, ap, sym, _∙_}
 use mathlib.Core.List.{List, [], _∷_}
 use lib.ListN.{length, getD}
+use lib.Seq.{getD-drop}
 use borrow.Author.Tests.{ne-eqb}
 use Rattle.lists.specs.All.{all}
 use Rattle.lists.specs.Cut.{pieces, cut}
@@ -19,7 +20,7 @@ use Rattle.lexer.specs.Kinds.{marks, markIn}
 use Rattle.lexer.specs.Cut.{isDigit, advance, piece, tokens}
 use Rattle.lexer.specs.Unicode.{unicode}
 use Rattle.lexer.specs.Outcome.{tokensOf, outcome}
-use Rattle.rows.specs.Rows.{records, rowed, Rowed}
+use Rattle.rows.specs.Rows.{records, rowed, Rowed, Bridged}
 use Rattle.rows.specs.declared.Token.{Token}
 
 abbrev semicolon : List ℕ
@@ -45,3 +46,7 @@ rules-out-one-more p = ap (λ (x : List Token). getD x 1 seven) (p .row-is ∙ l
 pub rules-out-refusal-writes : {s : List ℕ} {profile : ℕ} {row : List Token} {n a : ℕ} {l : List Token} → Rowed s profile row n a l → (n ≡ 0 → ⊥) → l ≡ row
 unfolding rowed
 rules-out-refusal-writes {s} {profile} {row} p h = p .row-is ∙ rw (ne-eqb (outcome s profile (3 * length row) .0) 0 (λ e. h (p .answer .number-is ∙ e)))
+
+-- a record of a row by value that was not lent is written to, at any text, profile and row: behind the records that are lent each is as it was
+pub rules-out-others-written : {s : List ℕ} {profile records : ℕ} {row : List Token} {n a : ℕ} {l : List Token} → Bridged s profile records row n a l → (j : ℕ) (d : Token) → getD l (records + j) d ≡ getD row (records + j) d
+rules-out-others-written {records = records} {row} {l = l} p j d = sym (getD-drop records l j d) ∙ ap (λ (x : List Token). getD x j d) (p .others) ∙ getD-drop records row j d

@@ -305,7 +305,7 @@ module _ {M : Type 1} (𝓤 : URA M) (H : Heap 𝓤) (A : Atoms 𝓤) (W : Given
 
   rows-of-meets : Meets 𝓤 H A rows-of.signature (WpFn 𝓤 H (𝓣 .C) (𝓣 .Λ) code.function) (rows-of.spec 𝓤 H A mem run)
   rows-of-meets =
-      walk-meets 𝓤 H A rows-of.ended stayed W 
+      walk-meets 𝓤 H A rows-of.ended stayed W
       (goes-dropped 𝓤 H A W 1 (shrSliceOf (0 ∷ []) tt (plain (λ _. u8))) yes (λ κs x f. refl), (goes-dropped 𝓤 H A W 1 (plain (λ _. u32)) yes (λ κs x f. refl), (goes-dropped 𝓤 H A W 1 (arrayOf (plain (λ _. T.the-row)) 64) yes (λ κs x f. refl), (goes-dropped 𝓤 H A W 1 (plain (λ _. usize)) yes (λ κs x f. refl), tt)))) (rows-of.clauses 𝓤 H A mem run)
       (WpFn 𝓤 H (𝓣 .C) (𝓣 .Λ) code.function) (WpFn-mono 𝓤 H (W .laws) 𝓣 code.function) rows-of-walks
 
