@@ -3,6 +3,7 @@ mod bodies;
 mod keys;
 mod lines;
 mod output;
+mod records;
 mod tasks;
 mod words;
 

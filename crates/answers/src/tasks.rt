@@ -5,6 +5,7 @@ use crate::output::put;
 use crate::output::put_all;
 use crate::output::put_number;
 use crate::output::put_word;
+use crate::records;
 use crate::words;
 use crate::words::Number;
 use text::Answer;
@@ -177,6 +178,9 @@ fn answer(line: &[u8], room: &mut [u8], out: &mut [u8], used: usize) -> usize {
     }
     if words::same(task, b"tokroom") {
         return tokroom(arguments, room, out, used);
+    }
+    if words::same(task, b"rowroom") {
+        return records::rowroom(arguments, room, out, used);
     }
     if words::same(task, b"ident") {
         return ident(arguments, room, out, used);
