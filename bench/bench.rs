@@ -276,14 +276,12 @@ fn now() -> f64 {
     t.seconds as f64 + t.nanoseconds as f64 * 1e-9
 }
 
-fn best<F: FnMut() -> usize>(f: &mut F, best: &mut f64) {
+fn timed<F: FnMut() -> usize>(f: &mut F) -> f64 {
     let t = now();
     let n = f();
     let d = now() - t;
     std::hint::black_box(n);
-    if d < *best {
-        *best = d;
-    }
+    d
 }
 
 fn name(f: &str) -> &str {
@@ -308,28 +306,41 @@ fn verify(w: &What, f: &str, text: &[u8]) {
     println!("{}: {} bytes, {} records or key bytes, the same on both sides and in both rooms", name(f), text.len(), count);
 }
 
-/// The best of each side: rust, kept, room, need, in seconds for one call.
-fn measure(w: &What, text: &[u8], rounds: usize, calls: usize) -> [f64; 4] {
+/// The best of each side, rust, kept, room and need, in seconds for one call; and how often room and need go into rust, the middle of the
+/// rounds, which a busy machine moves less than the best.
+fn measure(w: &What, text: &[u8], rounds: usize, calls: usize) -> [f64; 6] {
     let need = w.want(text).len();
     let (mut wide, mut tight) = (Kept::new(w, w.plenty(text)), Kept::new(w, need));
     wide.kept(w, text);
-    let mut b = [f64::MAX; 4];
+    let mut best = [f64::MAX; 4];
+    let mut ratios = [Vec::new(), Vec::new()];
     for _ in 0..rounds {
         let t = std::hint::black_box(text);
-        best(&mut || (0..calls).map(|_| wide.rust(w, t)).sum(), &mut b[0]);
-        best(&mut || (0..calls).map(|_| wide.kept(w, t)).sum(), &mut b[1]);
-        best(&mut || (0..calls).map(|_| wide.port(w, t).also as usize).sum(), &mut b[2]);
-        best(&mut || (0..calls).map(|_| tight.port(w, t).also as usize).sum(), &mut b[3]);
+        let d = [
+            timed(&mut || (0..calls).map(|_| wide.rust(w, t)).sum()),
+            timed(&mut || (0..calls).map(|_| wide.port(w, t).also as usize).sum()),
+            timed(&mut || (0..calls).map(|_| tight.port(w, t).also as usize).sum()),
+            timed(&mut || (0..calls).map(|_| wide.kept(w, t)).sum()),
+        ];
+        for (b, x) in best.iter_mut().zip([d[0], d[3], d[1], d[2]]) {
+            *b = b.min(x / calls as f64);
+        }
+        ratios[0].push(d[0] / d[1]);
+        ratios[1].push(d[0] / d[2]);
     }
-    b.map(|x| x / calls as f64)
+    let [room, need] = ratios.map(|mut r| {
+        r.sort_by(f64::total_cmp);
+        r[r.len() / 2]
+    });
+    [best[0], best[1], best[2], best[3], room, need]
 }
 
 fn head(first: &str) {
-    println!("{:14} {:>8} {:>8} {:>8} {:>8}", first, "rust", "kept", "room", "need");
+    println!("{:14} {:>8} {:>8} {:>8} {:>8} {:>9} {:>9}", first, "rust", "kept", "room", "need", "rust/room", "rust/need");
 }
 
-fn row(first: &str, b: [f64; 4], per: f64) {
-    println!("{:14} {:8.3} {:8.3} {:8.3} {:8.3}", first, b[0] * per, b[1] * per, b[2] * per, b[3] * per);
+fn row(first: &str, b: [f64; 6], per: f64) {
+    println!("{:14} {:8.3} {:8.3} {:8.3} {:8.3} {:9.2} {:9.2}", first, b[0] * per, b[1] * per, b[2] * per, b[3] * per, b[4], b[5]);
 }
 
 /// The first `size` bytes of the file again and again, down to a whole character.
