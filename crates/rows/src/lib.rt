@@ -132,9 +132,11 @@ pub fn tokenize_rows(text: &[u8], profile: u32, row: &mut [Token]) -> Answer
 }
 
 // A row by value, for a caller that holds no lent slice of structs.
+pub type Row = [Token; 64];
+
 pub struct Rows {
     pub answer: Answer,
-    pub row: [Token; 64],
+    pub row: Row,
 }
 
 // How many records of such a row are lent: all, where more are asked.
@@ -145,7 +147,7 @@ fn within(records: usize) -> usize
 }
 
 // `tokenize_rows` on the first records of a row by value: from plain parameters to a row and back, so that its callers need no proof by hand.
-pub fn rows_of(text: &[u8], profile: u32, row: [Token; 64], records: usize) -> Rows
+pub fn rows_of(text: &[u8], profile: u32, row: Row, records: usize) -> Rows
     ensures { λ r. ⌜ Bridged (now (text .entry)) profile records row (r .answer .number) (r .answer .also) (r .row) ⌝ }
 {
     let n = within(records);
