@@ -14,7 +14,7 @@
  *    NULL is an error of the caller's, and nothing notices it.
  *  - A `uint32_t *` is aligned to four bytes, as C asks of it anyhow. Bytes may stand anywhere. They need no NUL behind them, and a NUL among
  *    them is a character as any other.
- *  - What is written must not overlap what is read: a list or a key shares no byte with the text of the same call. Two texts may overlap.
+ *  - What is written must not overlap what is read: a list or a key shares no byte with the text of the same call. Texts of calls that run side by side may overlap.
  *  - What is lent to be written is never read: it may hold anything before the call.
  * Nothing else is asked: every text, number and count has an answer, and it is proved that there is one only, refusals included.
  *
@@ -249,7 +249,7 @@ oq3_answer oq3_in_double_quotes(uint32_t mode);
 oq3_answer oq3_characters_should_be_ascii(uint32_t mode);
 oq3_answer oq3_is_unicode_escape_disallowed(uint32_t mode);
 
-/* also is the length of the prefix of a literal that is not raw: 1 for `b`, else 0. Refuses with 1. */
+/* also is the length of the literal's prefix, without the `r` of raw ones: 1 for the three modes of bytes, else 0. Refuses with 1. */
 oq3_answer oq3_prefix_noraw(uint32_t mode);
 
 /* Whether the error of this number, 1 to 22, is one: also is 0 for the two warnings and else 1. Refuses with 1. */

@@ -45,7 +45,8 @@ opens c x = eqb c 0x2F && eqb x 0x2A
 abbrev pub closes : ℕ → ℕ → Bool
 closes c x = eqb c 0x2A && eqb x 0x2F
 
--- what two characters say in a comment at depth d: one opens, one closes (that brings the depth to nought: done), or it goes on
+-- what two characters do at depth d: they open a comment, they close one (and where that brings the depth to nought it is done), or the
+-- scan goes on behind the first of them
 abbrev turn : Bool → Bool → ℕ → List ℕ → (ℕ → Bool × List ℕ) → (Unit {0} → Bool × List ℕ) → Bool × List ℕ
 turn true b d t past next = past (suc d)
 turn false true d t past next = cond (leb d 1) (true, t) (past (d - 1))
@@ -185,7 +186,8 @@ pound t =
     let n = agree pragmaWord t in
     cond (eqb n 6) (pragma, skip notLf t) (invalidIdent, drop n t)
 
--- ---- a token: its kind, what is left where its suffix starts (from its own start on, where it has none), and what is left behind it
+-- ---- a token: its kind, what is left where its suffix starts (of a literal with none, behind it; of all else, from its own start on), and what
+-- is left behind it
 pub record Token : Type 0 where
   pub kind : ℕ
   pub mark : List ℕ

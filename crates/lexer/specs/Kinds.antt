@@ -5,6 +5,7 @@ use mathlib.Core.List.{List, [], _∷_}
 use Prim.Native.Nat.{ℕ, _+_, _*_}
 use lib.Dec.{eqb, leb}
 
+-- the end of the text, never listed
 abbrev pub eof : ℕ
 eof = 0
 

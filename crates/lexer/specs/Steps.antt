@@ -75,7 +75,8 @@ pub record Single (u : Letters) (c : ℕ) : Type 0 where
   pub no-at : (c ≡ 0x40 → ⊥)
   pub no-dollar : (c ≡ 0x24 → ⊥)
 
--- ---- a token at a place before the end: its kind, the place where its suffix starts (its own, where it has none), and its end
+-- ---- a token at a place before the end: its kind, the place where its suffix starts (of a literal with none, its end; of all else, its own
+-- start), and its end
 pub record Cuts (u : Letters) (profile : ℕ) (s : List ℕ) (at kind mark end : ℕ) : Type 0 where
   pub what : kind ≡ token u profile (left s at) .kind
   pub start : Place s at mark (token u profile (left s at) .mark)

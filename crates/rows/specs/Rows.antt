@@ -35,7 +35,7 @@ unfoldable pub words : List Token → List ℕ
 words [] = []
 words (t ∷ ts) = t .kind ∷ t .len ∷ t .suffix ∷ words ts
 
--- ---- a row by value, of which so many records are lent (all, where there are no more): those are as `tokenize_rows` leaves them, and the others as they were
+-- ---- a row by value, of which so many records are lent (all, where more are asked for): those are as `tokenize_rows` leaves them, and the others as they were
 pub record Bridged (s : List ℕ) (profile records : ℕ) (row : List Token) (number also : ℕ) (row′ : List Token) : Type 0 where
   pub lent : Rowed s profile (take records row) number also (take records row′)
   pub others : drop records row′ ≡ drop records row

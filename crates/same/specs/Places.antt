@@ -1,4 +1,4 @@
--- The line and the column of a place in a text, as an editor counts them, both from 1.
+-- The line and the column of a place in a text, both from 1: a column is a code point.
 -- Assumes nothing.
 use mathlib.Core.Path.{_≡_}
 use mathlib.Core.Bool.{Bool, cond, _&&_}

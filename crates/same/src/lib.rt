@@ -37,7 +37,7 @@ pub struct Comparison {
     pub new: Sight,
 }
 
-// As an editor counts them, both from 1: lines end at LF, and a column is a character.
+// Both from 1: lines end at LF, and a column is a code point.
 #[repr(C)]
 pub struct Place {
     pub line: usize,

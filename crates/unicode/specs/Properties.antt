@@ -21,7 +21,7 @@ isEmoji c = inTable c emoji
 abbrev pub isWhiteSpace : ℕ → Bool
 isWhiteSpace c = inTable c whiteSpace
 
--- ---- the same tests over a table that is lent: ASCII is decided before it, by the ranges of each property below 80
+-- ---- the same tests over a table that is lent: ASCII is decided before it, by the ranges of each property below 0x80
 unfoldable pub asciiStart : List Range
 asciiStart = 0x41 to 0x5A ∷ 0x61 to 0x7A ∷ []
 
@@ -34,6 +34,6 @@ asciiEmoji = 0x23 to 0x23 ∷ 0x2A to 0x2A ∷ 0x30 to 0x39 ∷ []
 unfoldable pub asciiSpace : List Range
 asciiSpace = 0x09 to 0x0D ∷ 0x20 to 0x20 ∷ []
 
--- what is answered on any lent list: by these ranges below 80, by the search from there on
+-- what is answered on any lent list: by these ranges below 0x80, by the search from there on
 unfoldable pub testedIn : List Range → List ℕ → ℕ → Bool
 testedIn ascii t c = cond (ltb c 0x80) (inTable c ascii) (searched t c)
