@@ -7,7 +7,7 @@ ghost use Prim.Native.Nat.{_%_};
 ghost use Rattle.unicode.specs.Utf8.{validUpTo};
 ghost use Rattle.unicode.specs.Text.{Decoded};
 ghost use Rattle.text.specs.Answer.{Answered, checkText, checkCut};
-ghost use Rattle.lexer.specs.Chars.{isWhitespace, isIdStart, isIdContinue};
+ghost use Rattle.letters.specs.Chars.{isWhitespace, isIdStart, isIdContinue};
 ghost use Rattle.lexer.specs.Outcome.{Listed, identified};
 ghost use Rattle.unescape.specs.Modes.{testedMode, inDoubleQuotes, charactersShouldBeAscii, isUnicodeEscapeDisallowed, hasPrefix};
 ghost use Rattle.unescape.specs.Errors.{fatal};

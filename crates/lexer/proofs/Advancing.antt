@@ -10,7 +10,7 @@ use lib.ListN.{length}
 use borrow.Author.Tests.{eq-eqb, ne-eqb}
 use Rattle.unicode.specs.Text.{Decoded, Place, left, skip}
 use Rattle.unicode.proofs.Text.{decoded-point, from-place}
-use Rattle.lexer.specs.Chars.{isWhitespace}
+use Rattle.letters.specs.Chars.{isWhitespace}
 use Rattle.lexer.specs.Kinds.{eof, whitespaceKind, invalidIdent, unknown, marks, markIn}
 use Rattle.lexer.specs.Cut.{Letters, Token, isDigit, slash, number, suffix, identifier, quoted, quoteKind, word, pound, annotated, hardware, wideEmoji, goesOn, advance, token}
 use Rattle.lexer.specs.Steps.{Parted, Quoted, Stands, Later, Single, Cuts, Advanced}

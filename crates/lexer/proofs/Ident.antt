@@ -18,7 +18,7 @@ use Rattle.unicode.specs.Ucd.{xidStart, xidContinue}
 use Rattle.unicode.specs.Text.{Decoded, Place, left, skip}
 use Rattle.unicode.proofs.Text.{decoded-point, point-at, left-end, skip-nil, skip-more, skip-stop}
 use Rattle.text.specs.Answer.{Answered, done, checkText}
-use Rattle.lexer.specs.Chars.{identBy, isIdent}
+use Rattle.letters.specs.Chars.{identBy, isIdent}
 use Rattle.lexer.specs.Cut.{Letters}
 use Rattle.lexer.specs.Unicode.{startIn, moreIn, unicode}
 use Rattle.lexer.specs.Outcome.{identified}

@@ -1,4 +1,3 @@
-pub mod Chars
 pub mod Unicode
 pub mod Flags
 pub mod Ident

@@ -12,7 +12,7 @@ use Rattle.lists.proofs.Bools.{by-test, both, on-cond}
 use Rattle.lists.proofs.Cut.{cut-nil, cut-cons}
 use Rattle.lists.proofs.Ends.{ends-all, ends-cons, ends-then, ends-tail, ends-drop, ends-eat, ends-length}
 use Rattle.unicode.specs.Text.{skip, keep}
-use Rattle.lexer.specs.Chars.{isWhitespace}
+use Rattle.letters.specs.Chars.{isWhitespace}
 use Rattle.lexer.specs.Kinds.{marks, markIn, isPlain, isLiteral, int, float, bitStr}
 use Rattle.lexer.specs.Cut.{Letters, Token, Quote, peek, notLf, isDigit, isHexDigit, isE, orUnderscore, met, opens, closes, block, slash, digits, exponent, exponentOf, point, fraction, based, number, isUnit, escapes, quoted, quoteKind, isBit, withoutLf, twice, pragmaWord, agree, pound, wideEmoji, goesOn, name, word, annotated, hardware, identifier, suffix, advance, piece, tokens}
 

@@ -1,16 +1,15 @@
--- The tokens of a whole text: the walk that counts or stores them, and the answer.
+-- The tokens of a text: runs of them, how many there are, and the answer.
 -- Assumes nothing.
 use Prim.Native.Nat.{ℕ, suc, _+_, _-_, _*_, _/_, _≤_, _<_}
 use native.Mathlib.Omega.{arith}
 use native.Mathlib.Numerals.{add-one, add-two}
 use mathlib.Core.Path.{_≡_, refl, ap, sym, _∙_}
-use mathlib.Core.Bool.{Bool, true, false, cond, false≢true}
+use mathlib.Core.Bool.{true, false}
 use mathlib.Core.List.{List, [], _∷_}
-use lib.ListN.{length, set, length-set}
-use lib.Seq.{sets}
+use lib.ListN.{length, drop, set, length-set, length-take, length-drop, drop-of-length-le}
+use lib.Seq.{sets, take-all, take-nil}
 use lib.Dec.{eqb}
 use borrow.Author.Tests.{lt-ltb, le-ltb, eq-eqb, ne-eqb}
-use Rattle.lists.proofs.Bools.{by-test}
 use Rattle.lists.proofs.Cut.{cut-few}
 use Rattle.lists.proofs.Store.{stored-front}
 use Rattle.unicode.specs.Utf8.{next, chars}
@@ -18,10 +17,10 @@ use Rattle.unicode.specs.Text.{bytes, left}
 use Rattle.unicode.proofs.Text.{point-at, left-end, between}
 use Rattle.text.specs.Answer.{Answered, done, roomTooSmall, longest, checkCut}
 use Rattle.text.proofs.Checks.{cut-accepted}
-use Rattle.lexer.specs.Cut.{Letters, Tok, token, piece, tokens, flat}
+use Rattle.lexer.specs.Cut.{Letters, Tok, token, piece, tokens, flat, total}
 use Rattle.lexer.specs.Unicode.{unicode}
-use Rattle.lexer.specs.Steps.{Cuts, Advanced, Walked, Stored}
-use Rattle.lexer.specs.Outcome.{tokensOf, outcome, listed, Listed}
+use Rattle.lexer.specs.Steps.{Cuts, Advanced, runFrom, Filled, Stored}
+use Rattle.lexer.specs.Outcome.{tokensOf, outcome, listed, Listed, run, CutRun}
 use Rattle.lexer.proofs.Shapes.{tokens-nil, tokens-cons}
 
 -- three words for each token
@@ -52,98 +51,145 @@ module _ (u : Letters) (profile : ℕ) where
       let q : tokens u profile (left s at) ≡ record-of (left s at) ∷ tokens u profile (token u profile (left s at) .rest) = (rw (c .view) (tokens-step _ _)) in
       q ∙ rw (← a .what, between (omega arith) (a .place), between (omega arith) (a .start), ← a .place .there)
 
--- ---- the walk: to go on from here comes to the same
-pub record Walking (u : Letters) (profile : ℕ) (s : List ℕ) (write : Bool) (list₀ : List ℕ) (at n : ℕ) (list : List ℕ) : Type 0 where
-  pub within : at ≤ length s
-  pub few : n ≤ at
+  -- there is one, of at least one byte
+  pub tokens-some : (s : List ℕ) (at : ℕ) → at < length s → 1 ≤ length (tokens u profile (left s at))
+  tokens-some s at h = let c = point-at s at h in rw (c .view, tokens-cons u profile) (omega arith)
+
+-- ---- a run of tokens: to go on from here comes to the same
+pub record Filling (u : Letters) (profile : ℕ) (s : List ℕ) (from : ℕ) (list₀ : List ℕ) (room at n : ℕ) (list : List ℕ) : Type 0 where
+  pub full : room ≡ length list₀ / 3
+  pub low : n ≤ room
   pub long : length list ≡ length list₀
-  pub count : n + length (tokens u profile (left s at)) ≡ length (tokens u profile (chars s))
-  pub room : (write ≡ true → 3 * n + length (flat (tokens u profile (left s at))) ≤ length list)
-  pub same : cond write (sets list (3 * n) (flat (tokens u profile (left s at)))) list ≡ cond write (sets list₀ 0 (flat (tokens u profile (chars s)))) list₀
+  pub count : n + length (runFrom u profile s at (room - n)) ≡ length (runFrom u profile s from room)
+  pub place : at + total (runFrom u profile s at (room - n)) ≡ from + total (runFrom u profile s from room)
+  pub rest : drop (room - n) (tokens u profile (left s at)) ≡ drop room (tokens u profile (left s from))
+  pub same : sets list (3 * n) (flat (runFrom u profile s at (room - n))) ≡ sets list₀ 0 (flat (runFrom u profile s from room))
 
-pub walking-none : (u : Letters) (profile : ℕ) (s : List ℕ) (write : Bool) (list : List ℕ) → (write ≡ true → length (flat (tokens u profile (chars s))) ≤ length list) → Walking u profile s write list 0 0 list
-walking-none u profile s write list h =
-    record { within = omega arith; few = omega arith; long = refl; count = omega arith; room = λ t. omega (arith, h t); same = refl }
+pub filling-none : (u : Letters) (profile : ℕ) (s : List ℕ) (from : ℕ) (list : List ℕ) {room : ℕ} → room ≡ length list / 3 → Filling u profile s from list room from 0 list
+filling-none u profile s from list {room} r =
+    let z : room - 0 ≡ room = omega arith in
+    record { full = r; low = omega arith; long = refl; count = rw z (omega arith); place = rw z; rest = rw z; same = rw z }
 
-module _ {u : Letters} {profile : ℕ} {s list₀ list : List ℕ} {write : Bool} {at n kind mark end : ℕ} (w : Walking u profile s write list₀ at n list) (h : at < length s) (a : Advanced u profile s at kind mark end) where
-  cuts : Cuts u profile s at kind mark end
-  cuts = a .before-end h
+module _ {u : Letters} {profile : ℕ} {s list₀ list : List ℕ} {from room at n : ℕ} (w : Filling u profile s from list₀ room at n list) where
+  pub fill-three : {k : ℕ} → n < room → k ≡ 3 * n → k + 3 ≤ length list
+  fill-three h e = omega (arith, w .full, w .long)
 
-  -- the words of the token at the front
-  front : flat (tokens u profile (left s at)) ≡ kind ∷ (end - at) ∷ (mark - at) ∷ flat (tokens u profile (left s end))
+  module _ {kind mark end n′ k : ℕ} {list′ : List ℕ} (l : n < room) (h : at < length s) (a : Advanced u profile s at kind mark end) where
+    pub fill-on : k ≡ 3 * n → list′ ≡ set (set (set list k kind) (k + 1) (end - at)) (k + 2) (mark - at) → n′ ≡ n + 1 → Filling u profile s from list₀ room end n′ list′
+    unfolding flat
+    fill-on v e f =
+        let cuts = a .before-end h in
+        let ts = tokens u profile (left s end) in
+        let t : Tok = record { kind = kind; len = end - at; suff = mark - at } in
+        let view : tokens u profile (left s at) ≡ t ∷ ts = tokens-at u profile h cuts in
+        let less : room - n ≡ suc (room - n′) = omega arith in
+        let front : runFrom u profile s at (room - n) ≡ t ∷ runFrom u profile s end (room - n′) = rw (less, view) in
+        let m : 3 * n′ ≡ suc (suc (suc k)) = omega arith in
+        let far : drop (room - n) (tokens u profile (left s at)) ≡ drop (room - n′) ts = rw (less, view) in
+        let g : sets list k (flat (runFrom u profile s at (room - n))) ≡ sets list₀ 0 (flat (runFrom u profile s from room)) = rw v (w .same) in
+        let l : length list′ ≡ length list = ap length e ∙ simp length-set in
+        record {
+          full = w .full;
+          low = omega arith;
+          long = l ∙ w .long;
+          count = omega (arith, w .count, ap length front);
+          place = omega (arith, w .place, ap total front, cuts .some);
+          rest = sym far ∙ w .rest;
+          same = rw (m, e, add-one, add-two) (ap (λ (l : List Tok). sets list k (flat l)) (sym front) ∙ g);
+        }
+
+  -- where nothing is left to cut, all is done
+  fill-done : {count : ℕ} → runFrom u profile s at (room - n) ≡ [] → drop (room - n) (tokens u profile (left s at)) ≡ tokens u profile (left s at) → count ≡ n → Filled u profile s from list₀ at count list
   unfolding flat
-  front = rw (tokens-at u profile h cuts)
-
-  pub walk-room : write ≡ true → 3 * n + 3 + length (flat (tokens u profile (left s end))) ≤ length list
-  walk-room t = omega (arith, w .room t, ap length front)
-
-  pub walk-three : {k : ℕ} → k ≡ 3 * n → write ≡ true → k + 3 ≤ length list
-  walk-three e t = omega (arith, walk-room t)
-
-  pub walk-skip : {n′ : ℕ} → write ≡ false → n′ ≡ n + 1 → Walking u profile s write list₀ end n′ list
-  walk-skip t e =
+  fill-done {count} z k e =
+      let r = w .full in
       record {
-        within = cuts .place .within;
-        few = omega (arith, w .few, cuts .some);
-        long = w .long;
-        count = omega (arith, w .count, ap length (tokens-at u profile h cuts));
-        room = λ x. absurd (false≢true (sym t ∙ x));
-        same = rw t (rw t at (w .same));
+        many = rw (← r) (omega (arith, w .count, ap length z));
+        reached = rw (← r) (omega (arith, w .place, ap total z));
+        rest = rw (← r) (sym k ∙ w .rest);
+        words = rw (← r) (ap (λ (l : List Tok). sets list (3 * n) (flat l)) (sym z) ∙ w .same);
       }
 
-  pub walk-put : {n′ k : ℕ} {list′ : List ℕ} → write ≡ true → k ≡ 3 * n → list′ ≡ set (set (set list k kind) (k + 1) (end - at)) (k + 2) (mark - at) → n′ ≡ n + 1 → Walking u profile s write list₀ end n′ list′
-  walk-put {n′} {k} {list′} t v e f =
-      let l : length list′ ≡ length list = ap length e ∙ simp length-set in
-      let m : 3 * n′ ≡ suc (suc (suc k)) = omega arith in
-      let g : sets list k (flat (tokens u profile (left s at))) ≡ sets list₀ 0 (flat (tokens u profile (chars s))) = rw v (rw t at (w .same)) in
+  pub fill-full : {count : ℕ} → room ≤ n → count ≡ n → Filled u profile s from list₀ at count list
+  fill-full h e = let z : room - n ≡ 0 = omega arith in fill-done (rw z) (rw z) e
+
+  pub fill-end : {count : ℕ} → length s ≤ at → count ≡ n → Filled u profile s from list₀ at count list
+  fill-end h e =
+      let z : tokens u profile (left s at) ≡ [] = ap (tokens u profile) (left-end s at h) ∙ tokens-nil u profile in
+      fill-done (rw z (take-nil (room - n))) (rw z (drop-of-length-le [] {i = room - n} (omega arith))) e
+
+-- ---- the same for every length of text
+module _ {u : Letters} {profile : ℕ} {s list list′ : List ℕ} {from at count : ℕ} where
+  pub run-none : longest < length s → at ≡ from → count ≡ 0 → list′ ≡ list → CutRun u profile s from list at count list′
+  unfolding run flat
+  run-none h a c e =
+      let t = lt-ltb longest (length s) h in
+      record { reached = rw t (omega arith); many = rw t c; words = rw t e }
+
+  pub run-some : {at₀ count₀ : ℕ} → length s ≤ longest → Filled u profile s from list at₀ count₀ list′ → at ≡ at₀ → count ≡ count₀ → CutRun u profile s from list at count list′
+  unfolding run
+  run-some h f a c =
+      let t = le-ltb longest (length s) h in
+      let room = length list / 3 in
+      let n = length-flat (runFrom u profile s from room) in
+      let few = length-take room (tokens u profile (left s from)) in
       record {
-        within = cuts .place .within;
-        few = omega (arith, w .few, cuts .some);
-        long = l ∙ w .long;
-        count = omega (arith, w .count, ap length (tokens-at u profile h cuts));
-        room = λ x. omega (arith, walk-room t, l);
-        same = rw (t, m, e, add-one, add-two) (ap (sets list k) (sym front) ∙ g);
+        reached = rw t (a ∙ f .reached);
+        many = rw t (c ∙ f .many);
+        words = rw t (stored-front (flat (runFrom u profile s from room)) list (f .words) (omega (arith, n, few)));
       }
 
-  pub walk-on : {n′ k : ℕ} {list′ : List ℕ} → k ≡ 3 * n → list′ ≡ cond write (set (set (set list k kind) (k + 1) (end - at)) (k + 2) (mark - at)) list → n′ ≡ n + 1 → Walking u profile s write list₀ end n′ list′
-  walk-on {n′} {k} {list′} v e f =
-      by-test write
-      (λ t. walk-put t v (rw t at e) f)
-      (λ t. let g : list′ ≡ list = rw t at e in rw g (walk-skip t f))
+-- ---- the count, by runs
+pub record Counting (u : Letters) (profile : ℕ) (s : List ℕ) (at n : ℕ) : Type 0 where
+  pub sum : n + length (tokens u profile (left s at)) ≡ length (tokens u profile (chars s))
 
-pub walk-end : {u : Letters} {profile : ℕ} {s list₀ list : List ℕ} {write : Bool} {at n : ℕ} → Walking u profile s write list₀ at n list → length s ≤ at → Walked u profile s write list₀ n list
-unfolding flat
-walk-end {u} {profile} {s} {list₀} {list} {write} {at} {n} w h =
-    let z : tokens u profile (left s at) ≡ [] = ap (tokens u profile) (left-end s at h) ∙ tokens-nil u profile in
-    let q : cond write (sets list (3 * n) (flat (tokens u profile (left s at)))) list ≡ list = rw z (either write) in
-    record { few = omega (arith, w .few, w .within); count = omega (arith, w .count, ap length z); words = sym q ∙ w .same }
-  where
-    either : (b : Bool) → cond b list list ≡ list
-    either true = refl
-    either false = refl
+pub counting-none : (u : Letters) (profile : ℕ) (s : List ℕ) → Counting u profile s 0 0
+counting-none u profile s = record { sum = omega arith }
+
+module _ {u : Letters} {profile : ℕ} {s : List ℕ} {at n : ℕ} (w : Counting u profile s at n) where
+  pub count-end : length s ≤ at → n ≡ length (tokens u profile (chars s))
+  count-end h =
+      let z : tokens u profile (left s at) ≡ [] = ap (tokens u profile) (left-end s at h) ∙ tokens-nil u profile in
+      omega (arith, w .sum, ap length z)
+
+  module _ {list list′ : List ℕ} {at′ k : ℕ} (f : Filled u profile s at list at′ k list′) where
+    pub count-add : n + k ≤ length s
+    count-add = omega (arith, w .sum, f .many, length-take (length list / 3) (tokens u profile (left s at)), few-tokens u profile s)
+
+    pub count-on : {n′ : ℕ} → n′ ≡ n + k → Counting u profile s at′ n′
+    count-on e =
+        let T = tokens u profile (left s at) in
+        record { sum = omega (arith, w .sum, f .many, ap length (f .rest), length-take (length list / 3) T, length-drop (length list / 3) T) }
+
+    pub count-less : length list ≡ 192 → at < length s → length (tokens u profile (left s at′)) < length (tokens u profile (left s at))
+    count-less r h =
+        let T = tokens u profile (left s at) in
+        omega (arith, ap length (f .rest), length-drop (length list / 3) T, tokens-some u profile s at h)
 
 -- ---- the answer of a text that passed the checks
-module _ {u : Letters} {profile : ℕ} {s list list′ : List ℕ} {n number also : ℕ} where
-  pub stored : Walked u profile s true list n list′ → n ≤ length list / 3 → number ≡ done → also ≡ n → Stored u profile s list number also list′
+module _ {u : Letters} {profile : ℕ} {s list list′ : List ℕ} {number also : ℕ} where
+  stored : {at n : ℕ} → Filled u profile s 0 list at n list′ → length (tokens u profile (chars s)) ≤ length list / 3 → number ≡ done → also ≡ n → Stored u profile s list number also list′
   stored w l k a =
-      let f = length-flat (tokens u profile (chars s)) in
+      let T = tokens u profile (chars s) in
+      let e : runFrom u profile s 0 (length list / 3) ≡ T = take-all (length list / 3) T l in
+      let n = length-flat T in
       record {
-        answer = rw (← w .count, le-ltb (length list / 3) n l) (record { number-is = k; also-is = a });
-        words = rw k (stored-front (flat (tokens u profile (chars s))) list (w .words) (omega (arith, f, w .count)));
+        answer = rw (le-ltb (length list / 3) (length T) l) (record { number-is = k; also-is = a ∙ w .many ∙ ap length e });
+        words = rw k (stored-front (flat T) list (w .words ∙ ap (λ (l : List Tok). sets list 0 (flat l)) e) (omega (arith, n)));
       }
 
-  pub stored-short : Walked u profile s false list n list′ → length list / 3 < n → number ≡ roomTooSmall → also ≡ n → Stored u profile s list number also list′
-  stored-short w l k a =
+  pub stored-all : {at n : ℕ} → Filled u profile s 0 list at n list′ → length s ≤ length list / 3 → number ≡ done → also ≡ n → Stored u profile s list number also list′
+  stored-all w l = stored w (omega (arith, few-tokens u profile s))
+
+  pub stored-counted : {at n m : ℕ} → Filled u profile s 0 list at n list′ → m ≡ length (tokens u profile (chars s)) → m ≤ length list / 3 → number ≡ done → also ≡ n → Stored u profile s list number also list′
+  stored-counted w c l = stored w (omega arith)
+
+  pub stored-none : {n : ℕ} → n ≡ length (tokens u profile (chars s)) → length list / 3 < n → list′ ≡ list → number ≡ roomTooSmall → also ≡ n → Stored u profile s list number also list′
+  stored-none c l e k a =
       record {
-        answer = rw (← w .count, lt-ltb (length list / 3) n l) (record { number-is = k; also-is = a });
-        words = rw k (w .words);
+        answer = rw (← c, lt-ltb (length list / 3) _ l) (record { number-is = k; also-is = a });
+        words = rw k e;
       }
-
-pub room-counted : {u : Letters} {profile : ℕ} {s list list′ : List ℕ} {n : ℕ} → Walked u profile s false list n list′ → n ≤ length list′ / 3 → length (flat (tokens u profile (chars s))) ≤ length list′
-room-counted {u} {profile} {s} w l = omega (arith, length-flat (tokens u profile (chars s)), w .count, l)
-
-pub room-enough : (u : Letters) (profile : ℕ) (s list : List ℕ) → length s ≤ length list / 3 → length (flat (tokens u profile (chars s))) ≤ length list
-room-enough u profile s list l = omega (arith, length-flat (tokens u profile (chars s)), few-tokens u profile s)
 
 -- ---- the whole
 pub listed-refused : {s list list′ : List ℕ} {profile number also : ℕ} → Answered (checkCut s profile) number also → (number ≡ done → ⊥) → list′ ≡ list → Listed s profile list number also list′
@@ -157,24 +203,6 @@ unfolding outcome listed tokensOf
 listed-done {s} {list} {list′} {profile} c z r =
     let h : eqb (checkCut s profile .0) done ≡ true = eq-eqb _ _ (sym (c .number-is) ∙ z) in
     record { answer = rw h (r .answer); words = rw (h, ← r .answer .number-is) (r .words) }
-
--- ---- as the code has them
-module _ {u : Letters} {profile : ℕ} {s list list′ : List ℕ} {n number also : ℕ} where
-  pub stored-all : Walked u profile s true list n list′ → length s ≤ length list / 3 → number ≡ done → also ≡ n → Stored u profile s list number also list′
-  stored-all w l k a = stored w (omega (arith, w .few)) k a
-
-  pub stored-none : Walked u profile s false list n list′ → length list′ / 3 < n → number ≡ roomTooSmall → also ≡ n → Stored u profile s list number also list′
-  stored-none w l k a = stored-short w (rw (w .words) at l) k a
-
-  pub stored-twice : {m : ℕ} {list″ : List ℕ} → Walked u profile s false list n list′ → n ≤ length list′ / 3 → Walked u profile s true list′ m list″ → number ≡ done → also ≡ n → Stored u profile s list number also list″
-  stored-twice {m} {list″} v l w k a =
-      let e : list′ ≡ list = v .words in
-      let w′ : Walked u profile s true list m list″ = rw e at w in
-      let h : n ≤ length list / 3 = rw e at l in
-      stored w′ (omega (arith, v .count, w .count, h)) k (omega (arith, v .count, w .count))
-
-pub not-writing : {A : Type 0} → false ≡ true → A
-not-writing e = absurd (false≢true e)
 
 pub cut-short : (s : List ℕ) (profile : ℕ) {n a : ℕ} → Answered (checkCut s profile) n a → n ≡ done → length s ≤ longest
 cut-short s profile c z = cut-accepted s profile (sym (c .number-is) ∙ z) .1 .short

@@ -2,7 +2,7 @@
 -- Assumes nothing.
 use mathlib.Core.Bool.{Bool, true, false, not, cond, _&&_, _||_}
 use mathlib.Core.List.{List, [], _∷_, tail}
-use Prim.Native.Nat.{ℕ, suc, _-_}
+use Prim.Native.Nat.{ℕ, _+_, suc, _-_}
 use lib.Dec.{eqb, leb}
 use lib.ListN.{drop}
 use Rattle.lists.specs.All.{all}
@@ -10,7 +10,7 @@ use Rattle.lists.specs.Cut.{cut}
 use Rattle.lists.specs.Eat.{eat}
 use Rattle.unicode.specs.Ranges.{_to_, inRange}
 use Rattle.unicode.specs.Text.{bytes, skip}
-use Rattle.lexer.specs.Chars.{isWhitespace}
+use Rattle.letters.specs.Chars.{isWhitespace}
 use Rattle.lexer.specs.Kinds.{eof, lineComment, blockComment, unclosedComment, whitespaceKind, ident, hardwareIdent, invalidIdent, pragma, annotation, atSign, dollar, slashMark, unknown, marks, markIn, int, float, str, bitStr}
 
 -- what peeking sees: NUL at the end of the text
@@ -277,3 +277,8 @@ module _ (u : Letters) where
 unfoldable pub flat : List Tok → List ℕ
 flat [] = []
 flat (t ∷ ts) = t .kind ∷ t .len ∷ t .suff ∷ flat ts
+
+-- the lengths of tokens, added up
+abbrev pub total : List Tok → ℕ
+total [] = 0
+total (t ∷ ts) = t .len + total ts

@@ -1,4 +1,3 @@
-pub mod Chars
 pub mod Kinds
 pub mod Cut
 pub mod Unicode

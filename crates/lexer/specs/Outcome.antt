@@ -1,15 +1,16 @@
--- What `tokenize` answers, and what it leaves in the list that it was lent; and what `is_ident` answers.
+-- What `tokenize` answers, and what it leaves in the list that it was lent; what `cut_run` does; and what `is_ident` answers.
 -- Assumes nothing.
-use Prim.Native.Nat.{ℕ, _/_}
+use Prim.Native.Nat.{ℕ, _+_, _/_}
 use mathlib.Core.Path.{_≡_}
 use mathlib.Core.Bool.{cond}
-use mathlib.Core.List.{List, _++_}
-use lib.Dec.{eqb}
-use lib.ListN.{length, drop}
+use mathlib.Core.List.{List, [], _++_}
+use lib.Dec.{eqb, ltb}
+use lib.ListN.{length, take, drop}
 use Rattle.unicode.specs.Utf8.{chars}
-use Rattle.text.specs.Answer.{Answered, done, checkText, checkCut, checkRoom, _andThen_}
-use Rattle.lexer.specs.Chars.{isIdent}
-use Rattle.lexer.specs.Cut.{Tok, tokens, flat}
+use Rattle.unicode.specs.Text.{left}
+use Rattle.text.specs.Answer.{Answered, done, longest, checkText, checkCut, checkRoom, _andThen_}
+use Rattle.letters.specs.Chars.{isIdent}
+use Rattle.lexer.specs.Cut.{Letters, Tok, tokens, flat, total}
 use Rattle.lexer.specs.Unicode.{unicode}
 
 -- the tokens of a text
@@ -29,6 +30,16 @@ listed s profile list =
 pub record Listed (s : List ℕ) (profile : ℕ) (list : List ℕ) (number also : ℕ) (list′ : List ℕ) : Type 0 where
   pub answer : Answered (outcome s profile (length list)) number also
   pub words : list′ ≡ listed s profile list
+
+-- the tokens from a place on, as many as there is room for; of a text that is too long, none
+unfoldable pub run : Letters → ℕ → List ℕ → ℕ → ℕ → List Tok
+run u profile s from room = cond (ltb longest (length s)) [] (take room (tokens u profile (left s from)))
+
+-- what `cut_run` answers and leaves: the place behind them, how many they are, and their words before what stood there
+pub record CutRun (u : Letters) (profile : ℕ) (s : List ℕ) (from : ℕ) (list : List ℕ) (at count : ℕ) (list′ : List ℕ) : Type 0 where
+  pub reached : at ≡ from + total (run u profile s from (length list / 3))
+  pub many : count ≡ length (run u profile s from (length list / 3))
+  pub words : list′ ≡ flat (run u profile s from (length list / 3)) ++ drop (length (flat (run u profile s from (length list / 3)))) list
 
 -- whether a text is an identifier: 1 for yes, 0 for no
 unfoldable pub identified : List ℕ → ℕ × ℕ

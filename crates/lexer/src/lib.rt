@@ -1,9 +1,8 @@
 // The lexer: how OpenQASM 3 text is cut into tokens.
 ghost use mathlib.Core.Path.{_≡_};
-ghost use Prim.Native.Nat.{_<_};
 ghost use Rattle.unicode.specs.Utf8.{chars};
 ghost use Rattle.text.specs.Answer.{Answered};
-ghost use Rattle.lexer.specs.Chars.{isWhitespace, isIdStart, isIdContinue, identBy, isIdent};
+ghost use Rattle.letters.specs.Chars.{identBy, isIdent};
 ghost use Rattle.lexer.specs.Unicode.{startIn, moreIn};
 ghost use Rattle.lexer.specs.Outcome.{identified};
 
@@ -16,50 +15,16 @@ mod numbers;
 mod quotes;
 mod words;
 
+pub use letters::is_id_continue;
+pub use letters::is_id_start;
+pub use letters::is_whitespace;
+
 use cursor::Cursor;
 use cursor::is_id_start_in;
 use text::Answer;
 use text::check_text;
-use unicode::properties::is_xid_continue;
-use unicode::properties::is_xid_start;
 use unicode::tables;
 use unicode::utf8::decode;
-
-// The bits 9 to 13 and 32 of a number: one test for all white space of ASCII, since a branch for each kind is guessed wrong where they mix.
-fn is_low_space(c: u32) -> bool
-    requires { ⌜ c < 64 ⌝ }
-    ensures { λ r. ⌜ r ≡ isWhitespace c ⌝ }
-{
-    (0x100003E00u64 >> c) % 2 == 1
-}
-
-// Pattern_White_Space, which never changes.
-pub fn is_whitespace(c: u32) -> bool
-    ensures { λ r. ⌜ r ≡ isWhitespace c ⌝ }
-{
-    if c < 64 {
-        return is_low_space(c);
-    }
-    match c {
-        0x85 | 0x200E..=0x200F | 0x2028..=0x2029 => true,
-        _ => false,
-    }
-}
-
-pub fn is_id_start(c: u32) -> bool
-    ensures { λ r. ⌜ r ≡ isIdStart c ⌝ }
-{
-    if c == 0x5F {
-        return true;
-    }
-    is_xid_start(c)
-}
-
-pub fn is_id_continue(c: u32) -> bool
-    ensures { λ r. ⌜ r ≡ isIdContinue c ⌝ }
-{
-    is_xid_continue(c)
-}
 
 // Over tables of the letters that are lent.
 fn is_ident_in(text: &[u8], start: &[u32], more: &[u32]) -> bool

@@ -1,54 +1,98 @@
 // The list of tokens of a whole text, three words for each.
 ghost use mathlib.Core.Path.{_≡_};
-ghost use mathlib.Core.Bool.{true, cond};
 ghost use Prim.Native.Nat.{_+_, _≤_};
 ghost use lib.ListN.{length, set};
 ghost use Rattle.unicode.specs.Utf8.{chars};
 ghost use Rattle.text.specs.Answer.{longest};
-ghost use Rattle.lexer.specs.Cut.{tokens, flat};
+ghost use Rattle.lexer.specs.Cut.{tokens};
 ghost use Rattle.lexer.specs.Unicode.{lent, unicode};
-ghost use Rattle.lexer.specs.Steps.{Walked, Stored};
-ghost use Rattle.lexer.specs.Outcome.{Listed};
+ghost use Rattle.lexer.specs.Steps.{Filled, Stored};
+ghost use Rattle.lexer.specs.Outcome.{Listed, CutRun};
 use crate::advance::advance_token;
 use text::Answer;
 use text::check_cut;
 use unicode::tables;
 
-// One record, where `write` says so.
-fn put(list: &mut [u32], write: bool, k: usize, kind: u32, len: u32, suffix: u32)
-    requires { ⌜ (write ≡ true → k + 3 ≤ length (now list)) ⌝ }
-    ensures { λ r. ⌜ now (list .exit) ≡ cond write (set (set (set (now (list .entry)) k kind) (k + 1) len) (k + 2) suffix) (now (list .entry)) ⌝ }
+// The place behind a run of tokens, and how many they are.
+pub struct Run {
+    pub at: usize,
+    pub count: usize,
+}
+
+fn put(list: &mut [u32], k: usize, kind: u32, len: u32, suffix: u32)
+    requires { ⌜ k + 3 ≤ length (now list) ⌝ }
+    ensures { λ r. ⌜ now (list .exit) ≡ set (set (set (now (list .entry)) k kind) (k + 1) len) (k + 2) suffix ⌝ }
 {
-    if !write {
-        return;
-    }
     list[k] = kind;
     list[k + 1] = len;
     list[k + 2] = suffix;
 }
 
-// Counts the tokens, and stores them where `write` says so: one loop for both, so that the cutter is compiled into it.
-fn walk(
+// Fills the list with tokens from a place on, until it is full or the text ends. The one loop around the cutter, so that the cutter is compiled into it.
+fn fill(
     text: &[u8],
+    from: usize,
     profile: u32,
-    write: bool,
     list: &mut [u32],
     start: &[u32],
     more: &[u32],
     emoji: &[u32],
-) -> usize
-    requires { ⌜ (length (now text) ≤ longest) × (write ≡ true → length (flat (tokens (lent (now start) (now more) (now emoji)) profile (chars (now text)))) ≤ length (now list)) ⌝ }
-    ensures { λ r. ⌜ Walked (lent (now (start .entry)) (now (more .entry)) (now (emoji .entry))) profile (now (text .entry)) write (now (list .entry)) r (now (list .exit)) ⌝ }
+) -> Run
+    requires { ⌜ length (now text) ≤ longest ⌝ }
+    ensures { λ r. ⌜ Filled (lent (now (start .entry)) (now (more .entry)) (now (emoji .entry))) profile (now (text .entry)) from (now (list .entry)) (r .at) (r .count) (now (list .exit)) ⌝ }
 {
-    let mut at: usize = 0;
+    let room = list.len() / 3;
+    let mut at = from;
     let mut n: usize = 0;
-    while at < text.len() {
+    while n < room {
+        if text.len() <= at {
+            break;
+        }
         let t = advance_token(text, at, profile, start, more, emoji);
         let len = (t.end - at) as u32;
         let suffix = (t.mark - at) as u32;
-        put(list, write, 3 * n, t.kind, len, suffix);
+        put(list, 3 * n, t.kind, len, suffix);
         n = n + 1;
         at = t.end;
+    }
+    Run { at, count: n }
+}
+
+// The tokens of any bytes from a place on, as many as the list has room for, under any number as profile and over tables of the letters that are
+// lent; of a text that is too long, none.
+pub fn cut_run(
+    text: &[u8],
+    from: usize,
+    profile: u32,
+    list: &mut [u32],
+    start: &[u32],
+    more: &[u32],
+    emoji: &[u32],
+) -> Run
+    ensures { λ r. ⌜ CutRun (lent (now (start .entry)) (now (more .entry)) (now (emoji .entry))) profile (now (text .entry)) from (now (list .entry)) (r .at) (r .count) (now (list .exit)) ⌝ }
+{
+    if text::LONGEST < text.len() {
+        return Run { at: from, count: 0 };
+    }
+    let r = fill(text, from, profile, list, start, more, emoji);
+    Run {
+        at: r.at,
+        count: r.count,
+    }
+}
+
+// How many tokens a text has, by runs of 64.
+fn count(text: &[u8], profile: u32, start: &[u32], more: &[u32], emoji: &[u32]) -> usize
+    requires { ⌜ length (now text) ≤ longest ⌝ }
+    ensures { λ r. ⌜ r ≡ length (tokens (lent (now (start .entry)) (now (more .entry)) (now (emoji .entry))) profile (chars (now (text .entry)))) ⌝ }
+{
+    let mut list = [0u32; 192];
+    let mut at: usize = 0;
+    let mut n: usize = 0;
+    while at < text.len() {
+        let r = fill(text, at, profile, &mut list, start, more, emoji);
+        n = n + r.count;
+        at = r.at;
     }
     n
 }
@@ -66,24 +110,19 @@ fn store(
     requires { ⌜ length (now text) ≤ longest ⌝ }
     ensures { λ r. ⌜ Stored (lent (now (start .entry)) (now (more .entry)) (now (emoji .entry))) profile (now (text .entry)) (now (list .entry)) (r .number) (r .also) (now (list .exit)) ⌝ }
 {
-    if text.len() <= list.len() / 3 {
-        let n = walk(text, profile, true, list, start, more, emoji);
-        return Answer {
-            number: text::DONE,
-            also: n as u64,
-        };
+    if list.len() / 3 < text.len() {
+        let n = count(text, profile, start, more, emoji);
+        if list.len() / 3 < n {
+            return Answer {
+                number: text::ROOM_TOO_SMALL,
+                also: n as u64,
+            };
+        }
     }
-    let n = walk(text, profile, false, list, start, more, emoji);
-    if list.len() / 3 < n {
-        return Answer {
-            number: text::ROOM_TOO_SMALL,
-            also: n as u64,
-        };
-    }
-    walk(text, profile, true, list, start, more, emoji);
+    let r = fill(text, 0, profile, list, start, more, emoji);
     Answer {
         number: text::DONE,
-        also: n as u64,
+        also: r.count as u64,
     }
 }
 

@@ -8,10 +8,9 @@ use lib.ListN.{length}
 use Rattle.unicode.specs.Utf8.{chars, width, Encoded, WellFormed}
 use Rattle.unicode.specs.Text.{bytes}
 use Rattle.unicode.proofs.Valid.{width-some, read-back, well-formed-encoded, encode-bytes, read-all}
-use Rattle.lexer.specs.Cut.{Letters, Tok, piece, tokens}
+use Rattle.lexer.specs.Cut.{Letters, Tok, piece, tokens, total}
 use Rattle.lexer.specs.Unicode.{unicode}
 use Rattle.lexer.specs.Outcome.{tokensOf}
-use Rattle.tokens.specs.Tiling.{total}
 use Rattle.locality.specs.Phases.{act, Usual}
 use Rattle.locality.proofs.Phases.{two, ends}
 use Rattle.locality.proofs.Swap.{swap-two}

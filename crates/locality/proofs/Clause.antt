@@ -16,11 +16,11 @@ use Rattle.unicode.specs.Ucd.{xidStart, xidContinue}
 use Rattle.unicode.specs.Utf8.{chars, isScalar, encode, encodeAll, WellFormed}
 use Rattle.unicode.specs.Text.{bytes}
 use Rattle.unicode.proofs.Valid.{encoded-well-formed, well-formed-encoded, encode-append, encode-bytes, read-all}
-use Rattle.lexer.specs.Chars.{isWhitespace, whitespace}
-use Rattle.lexer.specs.Cut.{Letters, Tok, advance, piece, tokens}
+use Rattle.letters.specs.Chars.{isWhitespace, whitespace}
+use Rattle.lexer.specs.Cut.{Letters, Tok, advance, piece, tokens, total}
 use Rattle.lexer.specs.Unicode.{unicode}
 use Rattle.lexer.specs.Outcome.{tokensOf}
-use Rattle.tokens.specs.Tiling.{Each, total, Formed}
+use Rattle.tokens.specs.Tiling.{Each, Formed}
 use Rattle.tokens.proofs.Tiling.{tiles}
 use Rattle.locality.specs.Phases.{Usual}
 use Rattle.tokens.specs.Members.{isCounted, membersOf}

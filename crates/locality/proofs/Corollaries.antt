@@ -18,12 +18,11 @@ use Rattle.unicode.specs.Text.{bytes}
 use Rattle.unicode.proofs.Text.{bytes-append}
 use Rattle.unicode.proofs.Valid.{width-some, encoded-well-formed, well-formed-encoded, encode-append, encode-bytes, read-all}
 use Rattle.unicode.proofs.Ascii.{chars-ascii}
-use Rattle.lexer.specs.Chars.{isWhitespace}
+use Rattle.letters.specs.Chars.{isWhitespace}
 use Rattle.lexer.specs.Kinds.{blockComment, whitespaceKind}
-use Rattle.lexer.specs.Cut.{Tok, piece, tokens}
+use Rattle.lexer.specs.Cut.{Tok, piece, tokens, total}
 use Rattle.lexer.specs.Unicode.{unicode}
 use Rattle.lexer.specs.Outcome.{tokensOf}
-use Rattle.tokens.specs.Tiling.{total}
 use Rattle.locality.specs.Phases.{Seen, bits, broken, other, seenKind}
 use Rattle.tokens.specs.Members.{isCounted, membersOf}
 use Rattle.locality.specs.Counted.{noneCount, lastIs, isLine, isOpen, isKept, LfIn, Run, withNewline, EndsAt, inserted}

@@ -10,7 +10,7 @@ use borrow.Author.Tests.{ne-eqb}
 use Rattle.lists.specs.All.{all}
 use Rattle.lists.proofs.Bools.{by-test, on-cond}
 use Rattle.unicode.specs.Text.{skip}
-use Rattle.lexer.specs.Chars.{isWhitespace}
+use Rattle.letters.specs.Chars.{isWhitespace}
 use Rattle.lexer.specs.Kinds.{marks, markIn, int, float, bitStr, str, whitespaceKind}
 use Rattle.lexer.specs.Cut.{Letters, Token, Quote, peek, isDigit, isE, block, slash, digits, exponent, exponentOf, point, fraction, based, number, quoted, quoteKind, isBit, withoutLf, twice, pragmaWord, agree, pound, wideEmoji, name, word, annotated, hardware, advance}
 use Rattle.lexer.proofs.Shapes.{mark-has}

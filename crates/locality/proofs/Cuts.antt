@@ -8,9 +8,8 @@ use mathlib.Core.List.{List, [], _∷_, _++_, append-assoc, append-nil, cons≢n
 use Rattle.lists.proofs.Bools.{both}
 use Rattle.unicode.specs.Text.{bytes}
 use Rattle.unicode.proofs.Text.{bytes-append}
-use Rattle.lexer.specs.Cut.{Letters, Tok, advance, piece, tokens}
+use Rattle.lexer.specs.Cut.{Letters, Tok, advance, piece, tokens, total}
 use Rattle.lexer.proofs.Shapes.{ends-advance, tokens-nil, tokens-cons}
-use Rattle.tokens.specs.Tiling.{total}
 use Rattle.tokens.specs.Members.{isCounted}
 
 -- a token's record and its characters

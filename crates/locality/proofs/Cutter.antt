@@ -10,11 +10,10 @@ use Rattle.lists.proofs.Cut.{cut-nil, cut-cons, by-length}
 use Rattle.unicode.specs.Utf8.{first, chars}
 use Rattle.unicode.specs.Text.{bytes}
 use Rattle.unicode.proofs.Text.{chars-nil, chars-first, bytes-chars}
-use Rattle.lexer.specs.Cut.{Tok, piece, tokens}
+use Rattle.lexer.specs.Cut.{Tok, piece, tokens, total}
 use Rattle.lexer.specs.Unicode.{unicode}
 use Rattle.lexer.specs.Outcome.{tokensOf}
 use Rattle.lexer.proofs.Shapes.{tokens-nil}
-use Rattle.tokens.specs.Tiling.{total}
 use Rattle.tokens.proofs.First.{tokens-first, first-some}
 use Rattle.locality.specs.Cutter.{Cutter, cutBytes, firstToken}
 

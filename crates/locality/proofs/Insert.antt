@@ -15,7 +15,7 @@ use Rattle.lists.proofs.Ends.{ends-eat, ends-length}
 use Rattle.unicode.specs.Ranges.{inTable}
 use Rattle.unicode.specs.Text.{skip, keep}
 use Rattle.unicode.proofs.Text.{skip-more, skip-stop}
-use Rattle.lexer.specs.Chars.{isWhitespace, whitespace}
+use Rattle.letters.specs.Chars.{isWhitespace, whitespace}
 use Rattle.lexer.specs.Kinds.{lineComment, blockComment, unclosedComment, whitespaceKind}
 use Rattle.lexer.specs.Cut.{Letters, Tok, Token, peek, notLf, opens, closes, block, slash, isUnit, advance, piece}
 use Rattle.locality.specs.Phases.{Line, ofComment, ofPragma, ofAnnotation, lineKind, act, Usual}

@@ -8,7 +8,7 @@ use mathlib.Core.List.{List, [], _∷_}
 use lib.Dec.{eqb, leb}
 use borrow.Author.Tests.{eqb-true, ne-eqb, lt-leb}
 use Rattle.lists.proofs.Bools.{by-test, on-cond}
-use Rattle.lexer.specs.Chars.{isWhitespace}
+use Rattle.letters.specs.Chars.{isWhitespace}
 use Rattle.lexer.specs.Kinds.{unclosedComment, whitespaceKind, invalidIdent, atSign, int, float}
 use Rattle.lexer.specs.Cut.{Letters, peek, notLf, isDigit, isHexDigit, isE, orUnderscore, met, opens, closes, isUnit, wideEmoji, goesOn}
 use Rattle.locality.specs.Machine.{Act, eats, halts}

@@ -12,7 +12,7 @@ use Rattle.lists.proofs.Bools.{by-test}
 use Rattle.unicode.specs.Ranges.{inTable}
 use Rattle.unicode.specs.Text.{bytes, skip}
 use Rattle.unicode.proofs.Text.{skip-nil, skip-more, skip-stop}
-use Rattle.lexer.specs.Chars.{isWhitespace, whitespace}
+use Rattle.letters.specs.Chars.{isWhitespace, whitespace}
 use Rattle.lexer.specs.Kinds.{whitespaceKind}
 use Rattle.lexer.specs.Cut.{Letters, Tok, advance, piece}
 use Rattle.tokens.specs.Members.{isCounted}

@@ -8,9 +8,8 @@ use lib.Dec.{eqb}
 use lib.ListN.{length, take, drop}
 use Rattle.lists.specs.All.{all}
 use Rattle.lexer.specs.Kinds.{lineComment, unclosedComment, whitespaceKind, pragma, annotation, str, bitStr}
-use Rattle.lexer.specs.Cut.{Tok}
+use Rattle.lexer.specs.Cut.{Tok, total}
 use Rattle.lexer.specs.Outcome.{tokensOf}
-use Rattle.tokens.specs.Tiling.{total}
 use Rattle.tokens.specs.Members.{isCounted}
 
 -- the last token passes a test

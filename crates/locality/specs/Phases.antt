@@ -7,7 +7,7 @@ use mathlib.Core.List.{List, [], _∷_, tail}
 use lib.Dec.{eqb, leb}
 use lib.ListN.{getD}
 use Rattle.lists.specs.All.{all}
-use Rattle.lexer.specs.Chars.{isWhitespace}
+use Rattle.letters.specs.Chars.{isWhitespace}
 use Rattle.lexer.specs.Kinds.{lineComment, blockComment, unclosedComment, whitespaceKind, ident, hardwareIdent, invalidIdent, pragma, annotation, atSign, dollar, slashMark, unknown, marks, markIn, int, float, str, bitStr}
 use Rattle.lexer.specs.Cut.{Letters, peek, notLf, isDigit, isHexDigit, isE, opens, closes, orUnderscore, met, isUnit, isBit, pragmaWord, wideEmoji, goesOn}
 use Rattle.locality.specs.Machine.{Act, eats, halts}

@@ -9,7 +9,7 @@ use lib.Dec.{eqb, leb, ltb}
 use borrow.Author.Tests.{le-leb, lt-leb, leb-true, ltb-true, eqb-true}
 use Rattle.lists.proofs.Bools.{by-test, both, on-cond}
 use Rattle.unicode.specs.Text.{skip}
-use Rattle.lexer.specs.Chars.{isWhitespace}
+use Rattle.letters.specs.Chars.{isWhitespace}
 use Rattle.lexer.specs.Kinds.{marks, markIn, isLiteral}
 use Rattle.lexer.specs.Cut.{Letters, Token, peek, isDigit, block, slash, digits, quoted, agree, pragmaWord, pound, wideEmoji, name, word, annotated, hardware, advance}
 use Rattle.lexer.proofs.Shapes.{number-part, quote-listed}

@@ -15,7 +15,7 @@ use Rattle.unicode.specs.Ucd.{xidStart, xidContinue, emoji}
 use Rattle.unicode.specs.Utf8.{table, behind, begins, joined, readBy, first, next, chars, width, goodBytes, validUpTo}
 use Rattle.unicode.specs.Text.{bytes, skip}
 use Rattle.text.specs.Answer.{done, checkText, checkCut}
-use Rattle.lexer.specs.Chars.{whitespace}
+use Rattle.letters.specs.Chars.{whitespace}
 use Rattle.lexer.specs.Kinds.{marks, markIn}
 use Rattle.lexer.specs.Cut.{notLf, isDigit, isHexDigit, block, slash, digits, exponent, exponentOf, point, fraction, based, number, isUnit, quoted, quoteKind, agree, pound, name, word, annotated, hardware, identifier, suffix, advance, piece, tokens}
 use Rattle.lexer.specs.Unicode.{unicode}

@@ -13,9 +13,8 @@ use Rattle.lists.proofs.Bools.{by-test}
 use Rattle.unicode.specs.Utf8.{chars}
 use Rattle.unicode.specs.Text.{left}
 use Rattle.unicode.proofs.Text.{point-at, left-end, bytes-chars}
-use Rattle.lexer.specs.Cut.{Letters, Tok, piece, tokens}
+use Rattle.lexer.specs.Cut.{Letters, Tok, piece, tokens, total}
 use Rattle.lexer.proofs.Shapes.{tokens-nil}
-use Rattle.tokens.specs.Tiling.{total}
 use Rattle.tokens.proofs.First.{tokens-first}
 use Rattle.tokens.proofs.Tiling.{tiles-chars}
 use Rattle.rows.specs.Rows.{recordOf, records}

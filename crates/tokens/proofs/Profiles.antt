@@ -17,13 +17,12 @@ use Rattle.unicode.proofs.Text.{chars-nil, chars-first, bytes-chars, ends-bytes
 use Rattle.unicode.proofs.Ascii.{skip-bytes}
 use Rattle.unicode.specs.Ranges.{inTable}
 use Rattle.unicode.specs.Ucd.{xidStart, xidContinue}
-use Rattle.lexer.specs.Chars.{isWhitespace, whitespace}
+use Rattle.letters.specs.Chars.{isWhitespace, whitespace}
 use Rattle.lexer.specs.Kinds.{ident, invalidIdent, pragma}
-use Rattle.lexer.specs.Cut.{Letters, Tok, peek, notLf, agree, pragmaWord, wideEmoji, name, word, advance, piece, tokens}
+use Rattle.lexer.specs.Cut.{Letters, Tok, peek, notLf, agree, pragmaWord, wideEmoji, name, word, advance, piece, tokens, total}
 use Rattle.lexer.specs.Unicode.{unicode}
 use Rattle.lexer.specs.Outcome.{tokensOf}
 use Rattle.lexer.proofs.Shapes.{name-part, tokens-nil}
-use Rattle.tokens.specs.Tiling.{total}
 use Rattle.tokens.specs.Profiles.{bare, bareIn, pragmaLine, Parting}
 use Rattle.tokens.proofs.First.{tokens-first, first-some}
 use Rattle.tokens.proofs.Agree.{agree-most, agree-all, agree-take, agree-chars}

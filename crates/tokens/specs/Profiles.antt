@@ -8,8 +8,7 @@ use lib.Dec.{eqb}
 use lib.ListN.{length, take, drop}
 use Rattle.unicode.specs.Text.{skip}
 use Rattle.lexer.specs.Kinds.{ident, invalidIdent, pragma}
-use Rattle.lexer.specs.Cut.{Tok, notLf, agree, pragmaWord}
-use Rattle.tokens.specs.Tiling.{total}
+use Rattle.lexer.specs.Cut.{Tok, notLf, agree, pragmaWord, total}
 
 -- a bare pragma: an Ident or InvalidIdent whose bytes begin with `pragma`; s is the text from the token on
 abbrev pub bare : List ℕ → Tok → Bool

@@ -1,45 +1,28 @@
-use Rattle.lexer.proofs.Whole.{room-enough, room-counted, not-writing, stored-all, stored-none, stored-twice}
+use mathlib.Core.Path.{refl}
+use mathlib.Core.Logic.{inl, inr}
+use Rattle.lexer.proofs.Whole.{stored-all, stored-counted, stored-none}
 use borrow.Author.Needs.{needs}
 use Rattle.lexer.proofs.list.store.Statement.{statement}
 use Rattle.lexer.proofs.list.store.Tie as tie
 
-walk-requires : tie.Need-walk-requires
-walk-requires c κs = (search needs, λ t. search (needs, room-enough))
+count-requires : tie.Need-count-requires
+count-requires c κs = search needs
+
+returns : tie.Need-returns
+returns c = search (needs, stored-none)
+
+fill-requires : tie.Need-fill-requires
+fill-requires c κs = search needs
 
 same-length : tie.Need-same-length
 same-length c = search needs
 
-returns : tie.Need-returns
-returns c = search (needs, stored-all)
-
-walk-requires-2 : tie.Need-walk-requires-2
-walk-requires-2 c κs = (search needs, not-writing)
-
-same-length-2 : tie.Need-same-length-2
-same-length-2 c = search needs
-
 returns-2 : tie.Need-returns-2
-returns-2 c = search (needs, stored-none)
-
-walk-requires-3 : tie.Need-walk-requires-3
-walk-requires-3 c κs = (search needs, λ t. room-counted (c .before .before .before .before .walk2 .ensures) (c .before .if2 .left))
-
-same-length-3 : tie.Need-same-length-3
-same-length-3 c = search needs
-
-returns-3 : tie.Need-returns-3
-returns-3 c = search (needs, stored-twice)
+returns-2 c =
+    elim (c .before .before .before .before .if1 .came) [
+      | inl x ↦ stored-counted (c .before .before .fill .ensures) (x .1 .ensures) (x .2 .left) refl refl
+      | inr y ↦ stored-all (c .before .before .fill .ensures) (y .left) refl refl
+    ]
 
 pub store-spec : {M : Type 1} → statement M
-store-spec =
-    tie.close
-    (tie.spec
-    walk-requires
-    same-length
-    returns
-    walk-requires-2
-    same-length-2
-    returns-2
-    walk-requires-3
-    same-length-3
-    returns-3)
+store-spec = tie.close (tie.spec count-requires returns fill-requires same-length returns-2)

@@ -4,7 +4,7 @@ use lib.ListN.{length}
 use Rattle.unicode.specs.Text.{Eating, keep}
 use Rattle.unicode.proofs.Text.{eating, decoded-fits, decoded-some}
 use Rattle.unicode.proofs.Ascii.{ascii}
-use Rattle.lexer.specs.Chars.{isWhitespace}
+use Rattle.letters.specs.Chars.{isWhitespace}
 use borrow.Author.Needs.{needs}
 use Rattle.lexer.proofs.cursor.Cursor.eat_whitespace.Statement.{statement}
 use Rattle.lexer.proofs.cursor.Cursor.eat_whitespace.Tie as tie

@@ -1,21 +1,20 @@
 use Prim.Native.Nat.{_-_}
 use native.Mathlib.Omega.{arith}
-use lib.ListN.{length}
 use Rattle.lexer.specs.Unicode.{lent}
 use Rattle.lexer.proofs.Advancing.{end-some, end-within, mark-after, mark-within}
-use Rattle.lexer.proofs.Whole.{Walking, walking-none, walk-three, walk-on, walk-end}
+use Rattle.lexer.proofs.Whole.{Filling, filling-none, fill-three, fill-on, fill-full, fill-end}
 use borrow.Author.Needs.{needs}
-use Rattle.lexer.proofs.list.walk.Statement.{statement}
-use Rattle.lexer.proofs.list.walk.Tie as tie
+use Rattle.lexer.proofs.list.fill.Statement.{statement}
+use Rattle.lexer.proofs.list.fill.Tie as tie
 
 abbrev Inv-loop : tie.InvT-loop
-Inv-loop text profile write list₀ start more emoji at₀ n₀ list at n = Walking (lent start more emoji) profile text write list₀ at n list
+Inv-loop text from profile list₀ start more emoji room at₀ n₀ list at n = Filling (lent start more emoji) profile text from list₀ room at n list
 
 abbrev μ-loop : tie.MeasureT-loop
-μ-loop text profile write list₀ start more emoji at₀ n₀ list at n = length text - at
+μ-loop text from profile list₀ start more emoji room at₀ n₀ list at n = room - n
 
 loop-holds : tie.Need-loop-holds Inv-loop μ-loop
-loop-holds c = search (needs, walking-none)
+loop-holds c = search (needs, filling-none)
 
 advance-token-requires : tie.Need-advance-token-requires Inv-loop μ-loop
 advance-token-requires c κs = search needs
@@ -36,25 +35,31 @@ mul-put : tie.Need-mul-put Inv-loop μ-loop
 mul-put c = search needs
 
 put-requires : tie.Need-put-requires Inv-loop μ-loop
-put-requires c κs = search (needs, walk-three)
+put-requires c κs = search (needs, fill-three)
 
 add-n : tie.Need-add-n Inv-loop μ-loop
 add-n c = search needs
 
 loop-less : tie.Need-loop-less Inv-loop μ-loop
-loop-less c = omega (arith, end-some)
+loop-less c = omega arith
 
 loop-again : tie.Need-loop-again Inv-loop μ-loop
-loop-again c = search (needs, walk-on)
+loop-again c = search (needs, fill-on)
 
 same-length : tie.Need-same-length Inv-loop μ-loop
 same-length c = search needs
 
 returns : tie.Need-returns Inv-loop μ-loop
-returns c = search (needs, walk-end)
+returns c = search (needs, fill-full, fill-end)
 
-pub walk-spec : {M : Type 1} → statement M
-walk-spec =
+same-length-2 : tie.Need-same-length-2 Inv-loop μ-loop
+same-length-2 c = search needs
+
+returns-2 : tie.Need-returns-2 Inv-loop μ-loop
+returns-2 c = search (needs, fill-full, fill-end)
+
+pub fill-spec : {M : Type 1} → statement M
+fill-spec =
     tie.close
     (tie.spec
     Inv-loop
@@ -71,4 +76,6 @@ walk-spec =
     loop-less
     loop-again
     same-length
-    returns)
+    returns
+    same-length-2
+    returns-2)

@@ -1,7 +1,7 @@
 use borrow.Author.Tests.{ne-eqb}
 use borrow.Author.Needs.{needs}
-use Rattle.lexer.proofs.is_id_start.Statement.{statement}
-use Rattle.lexer.proofs.is_id_start.Tie as tie
+use Rattle.letters.proofs.is_id_start.Statement.{statement}
+use Rattle.letters.proofs.is_id_start.Tie as tie
 
 returns : tie.Need-returns
 returns c = rw (c .if1 .taken)

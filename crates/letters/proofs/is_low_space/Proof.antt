@@ -1,7 +1,7 @@
-use Rattle.lexer.proofs.Chars.{low-spaces}
+use Rattle.letters.proofs.Chars.{low-spaces}
 use borrow.Author.Needs.{needs}
-use Rattle.lexer.proofs.is_low_space.Statement.{statement}
-use Rattle.lexer.proofs.is_low_space.Tie as tie
+use Rattle.letters.proofs.is_low_space.Statement.{statement}
+use Rattle.letters.proofs.is_low_space.Tie as tie
 
 shr-result : tie.Need-shr-result
 shr-result c = search needs

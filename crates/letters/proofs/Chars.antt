@@ -12,7 +12,7 @@ use Rattle.unicode.specs.Ranges.{inTable}
 use Rattle.unicode.proofs.First.{scalar-low}
 use Rattle.unicode.proofs.Rows.{every, each}
 use Rattle.unicode.proofs.Rising.{scalar-in, start-scalar, continue-scalar}
-use Rattle.lexer.specs.Chars.{whitespace, isWhitespace, isIdStart, isIdContinue}
+use Rattle.letters.specs.Chars.{whitespace, isWhitespace, isIdStart, isIdContinue}
 
 module _ (c : ℕ) where
   pub whitespace-scalar : isWhitespace c ≡ true → isScalar c ≡ true

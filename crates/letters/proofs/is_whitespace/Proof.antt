@@ -1,10 +1,10 @@
 use native.Mathlib.Omega.{arith}
 use Rattle.unicode.specs.Ranges.{inTable}
 use Rattle.unicode.proofs.Member.{here, later, outside}
-use Rattle.lexer.specs.Chars.{whitespace}
+use Rattle.letters.specs.Chars.{whitespace}
 use borrow.Author.Needs.{needs}
-use Rattle.lexer.proofs.is_whitespace.Statement.{statement}
-use Rattle.lexer.proofs.is_whitespace.Tie as tie
+use Rattle.letters.proofs.is_whitespace.Statement.{statement}
+use Rattle.letters.proofs.is_whitespace.Tie as tie
 
 is-low-space-requires : tie.Need-is-low-space-requires
 is-low-space-requires c κs = search needs
