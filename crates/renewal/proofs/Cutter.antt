@@ -1,36 +1,38 @@
 -- The cutter of the profiles is a cutter on bytes that the key can be made of.
 -- Assumes nothing.
-use Prim.Native.Nat.{ℕ, _+_, _-_, _≤_, _<_}
+use Prim.Native.Nat.{ℕ, _+_, _-_, _*_, _/_, _≤_, _<_}
 use native.Mathlib.Decide.{decLt, ℕ-discrete}
 use native.Mathlib.Omega.{arith}
 use mathlib.Core.Path.{_≡_, ap, sym, _∙_}
 use mathlib.Core.Bool.{Bool, true, not}
-use mathlib.Core.List.{List, [], _∷_, cons≢nil}
+use mathlib.Core.List.{List, [], _∷_, _++_, cons≢nil}
 use lib.Dec.{eqb}
-use lib.ListN.{length, take, drop, getD}
+use lib.ListN.{length, take, drop, getD, length-append, length-drop}
 use lib.Seq.{length-take-le}
-use borrow.Author.Tests.{lt-ltb}
+use borrow.Author.Tests.{lt-ltb, le-ltb}
+use Rattle.lists.specs.Put.{PutIf}
 use Rattle.unicode.specs.Utf8.{first, chars, width}
-use Rattle.unicode.specs.Text.{bytes, left}
-use Rattle.unicode.proofs.Text.{chars-nil, chars-first, bytes-chars, point-at}
+use Rattle.unicode.specs.Text.{bytes}
+use Rattle.unicode.proofs.Text.{chars-nil, chars-first, bytes-chars}
 use Rattle.unicode.proofs.Ascii.{chars-ascii, wide-code}
 use Rattle.text.specs.Answer.{longest}
-use Rattle.lexer.specs.Cut.{Letters, Tok, Token, advance, token, piece, tokens}
-use Rattle.lexer.specs.Steps.{Advanced}
+use Rattle.lexer.specs.Cut.{Letters, Tok, Token, advance, piece, tokens, flat, total}
 use Rattle.lexer.specs.Unicode.{unicode}
-use Rattle.lexer.specs.Outcome.{tokensOf}
+use Rattle.lexer.specs.Outcome.{tokensOf, run, CutRun}
 use Rattle.lexer.proofs.Shapes.{Shape, plain, literal, advance-shape, tokens-nil}
-use Rattle.lexer.proofs.Whole.{tokens-at}
+use Rattle.lexer.proofs.Whole.{length-flat}
 use Rattle.tokens.proofs.First.{tokens-first, first-some}
 use Rattle.tokens.proofs.Tiling.{formed-of}
 use Rattle.tokens.specs.Members.{isCounted, memberOf}
 use Rattle.renewal.specs.Key.{noBody, bodyLength}
 use Rattle.renewal.specs.Rules.{Ruled, mark, stored, First, Cutter, ownBytes}
 use Rattle.renewal.specs.Rules as rules
-use Rattle.renewal.specs.Steps.{bodies, cutBy, member, entry, Ready, Entered, Walked}
+use Rattle.renewal.specs.Steps.{bodies, cutBy, toks, entries, RunReady, Walked}
 use Rattle.renewal.proofs.Bodies.{plain-known, literal-known, plain-body, literal-body, empty-mark}
 use Rattle.renewal.proofs.Marks.{advance-mark}
-use Rattle.renewal.proofs.Walking.{Step, Walking, walk-ready, walk-on, walk-end}
+use Rattle.renewal.proofs.Runs.{taken, taken-some}
+use Rattle.renewal.proofs.Entering.{toks-of}
+use Rattle.renewal.proofs.Walking.{Walking, walk-ready, walk-on, walk-end}
 
 -- ---- an ASCII character is one byte, and its own
 ascii-byte : (c : ℕ) (t s : List ℕ) → chars s ≡ c ∷ t → c < 0x80 → take 1 s ≡ c ∷ []
@@ -111,26 +113,39 @@ pub profile-cutter : (profile : ℕ) → Cutter (tokensOf profile)
 unfolding tokensOf
 profile-cutter profile = cutter unicode profile
 
--- ---- what `advance_token` answers is a step of it
-module _ {u : Letters} {profile : ℕ} {s : List ℕ} {at kind mark end : ℕ} (h : at < length s) (a : Advanced u profile s at kind mark end) where
-  step-of : Step (cutBy u profile) s at kind mark end
-  unfolding token
-  step-of =
-      let k = a .before-end h in
-      let v = point-at s at h .view in
-      record {
-        some = k .some;
-        within = k .place .within;
-        view = tokens-at u profile h k;
-        known = rw (k .what, v) (token-known u profile (first (drop at s) .0) (left s (at + first (drop at s) .1)));
-      }
+-- ---- what `cut_run` gives are the tokens at the front
+module _ {u : Letters} {profile : ℕ} {s list list′ : List ℕ} {at at′ count : ℕ} (l : length list ≡ 192) (short : length s ≤ longest) (r : CutRun u profile s at list at′ count list′) where
+  abbrev ts : List Tok
+  ts = take 64 (cutBy u profile (drop at s))
+
+  run-is : run u profile s at (length list / 3) ≡ ts
+  unfolding run
+  run-is = let e : length list / 3 ≡ 64 = ap (λ (n : ℕ). n / 3) l in rw (le-ltb longest (length s) short, e)
+
+  count-is : count ≡ length ts
+  count-is = r .many ∙ ap length run-is
+
+  words-are : list′ ≡ flat ts ++ drop (length (flat ts)) list
+  words-are = r .words ∙ rw run-is
+
+  tokens-are : toks list′ 0 count ≡ ts
+  tokens-are = rw count-is (toks-of ts (drop (length (flat ts)) list) list′ 0 words-are)
+
+  run-words : 3 * count ≤ length list′
+  run-words = omega (arith, count-is, ap length words-are, length-append (flat ts) (drop (length (flat ts)) list), length-flat ts)
+
+  run-end : at′ ≡ at + total ts
+  run-end = r .reached ∙ rw run-is
+
+  pub run-less : at < length s → at < at′
+  run-less h = omega (arith, run-end, taken-some (cutter u profile) 63 (drop at s) (omega (arith, length-drop at s)))
 
   module _ {write : Bool} {key₀ key : List ℕ} {n : ℕ} (w : Walking (cutBy u profile) s write key₀ at n key) where
-    pub step-ready : {table : List ℕ} {suff : ℕ} → table ≡ bodies → length s ≤ longest → suff ≡ mark - at → Ready table write n kind suff (take (end - at) (drop at s)) key
-    step-ready = walk-ready w step-of
+    pub run-ready : {table : List ℕ} → table ≡ bodies → RunReady table write n s at list′ count key
+    run-ready b = walk-ready list′ count w (taken (cutter u profile) 64 (drop at s)) tokens-are b short run-words
 
-    pub step-on : {suff n′ : ℕ} {key′ : List ℕ} → suff ≡ mark - at → Entered write key n (entry (member kind suff (take (end - at) (drop at s)))) key′ n′ → Walking (cutBy u profile) s write key₀ end n′ key′
-    step-on = walk-on w step-of
+    pub run-on : {n′ : ℕ} {key′ : List ℕ} → PutIf write key n (entries (drop at s) (toks list′ 0 count)) key′ n′ → Walking (cutBy u profile) s write key₀ at′ n′ key′
+    run-on = walk-on list′ count w (taken (cutter u profile) 64 (drop at s)) tokens-are run-end
 
-pub steps-end : (u : Letters) (profile : ℕ) {s key₀ key : List ℕ} {write : Bool} {at n : ℕ} → Walking (cutBy u profile) s write key₀ at n key → length s ≤ at → Walked (cutBy u profile) s write key₀ n key
-steps-end u profile w h = walk-end (cut-none u profile) w h
+pub run-done : (u : Letters) (profile : ℕ) {s key₀ key : List ℕ} {write : Bool} {at n : ℕ} → Walking (cutBy u profile) s write key₀ at n key → length s ≤ at → Walked (cutBy u profile) s write key₀ n key
+run-done u profile w h = walk-end (cut-none u profile) w h

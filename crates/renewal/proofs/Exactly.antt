@@ -13,9 +13,9 @@ use Rattle.lexer.specs.Cut.{Tok}
 use Rattle.tokens.specs.Tiling.{Each}
 use Rattle.tokens.specs.Members.{isCounted, memberOf, counted, membersBy, membersOf}
 use Rattle.renewal.specs.Key.{keyOf, keyBy, keyOfText}
-use Rattle.renewal.specs.Rules.{Ruled, First, Cutter}
+use Rattle.renewal.specs.Rules.{Ruled, Cutter}
 use Rattle.renewal.proofs.Prefix.{keys-once, ruled-told}
-use Rattle.renewal.proofs.Walking.{Step, key-long, adds-few}
+use Rattle.renewal.proofs.Runs.{key-few-by}
 use Rattle.renewal.proofs.Cutter.{profile-cutter}
 
 module _ {cutter : List ℕ → List Tok} (cuts : Cutter cutter) where
@@ -43,22 +43,6 @@ module _ {cutter : List ℕ → List Tok} (cuts : Cutter cutter) where
   unfolding keyBy
   exactly-when-by s s′ h h′ =
       (keys-once ruled-told (membersBy cutter s) (membersBy cutter s′) (members-ruled s h) (members-ruled s′ h′), ap keyOf)
-
-  -- ---- at most eleven bytes for each byte of the text
-  first-step : (s : List ℕ) (f : First cutter s) → Step cutter s 0 (f .token .kind) (f .token .suff) (f .token .len)
-  first-step s f =
-      let len : f .token .len - 0 ≡ f .token .len = omega arith in
-      let suff : f .token .suff - 0 ≡ f .token .suff = omega arith in
-      record { some = f .some; within = f .within; view = rw (len, suff) (f .view); known = f .known }
-
-  pub key-few-by : (s : List ℕ) → length (keyBy cutter s) ≤ 11 * length s
-  unfolding keyBy membersBy counted keyOf
-  key-few-by =
-      by-length (λ (s : List ℕ). length (keyBy cutter s) ≤ 11 * length s) (rw (cuts .none) (omega arith))
-      (λ a s ih.
-      let f = cuts .first a s in
-      let t = first-step (a ∷ s) f in
-      omega (arith, key-long t, adds-few t, f .some, f .within, ih (drop (f .token .len) (a ∷ s)) (omega (arith, f .some, length-drop (f .token .len) (a ∷ s))), length-drop (f .token .len) (a ∷ s)))
 
 -- ---- THE THEOREM, for two texts that are accepted under one profile: their keys are equal if and only if their counted tokens are, one by
 -- one, in kind, length, suffix start and bytes

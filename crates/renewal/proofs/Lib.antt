@@ -3,6 +3,8 @@ pub mod Texts
 pub mod Prefix
 pub mod Bodies
 pub mod Writing
+pub mod Runs
+pub mod Entering
 pub mod Walking
 pub mod Marks
 pub mod Cutter

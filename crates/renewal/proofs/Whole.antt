@@ -23,7 +23,8 @@ use Rattle.renewal.specs.Key.{keyBy, keyOfText}
 use Rattle.renewal.specs.Outcome.{outcome, keyed, Keyed}
 use Rattle.renewal.specs.Steps.{cutBy, Walked, Stored}
 use Rattle.renewal.proofs.Cutter.{cutter}
-use Rattle.renewal.proofs.Exactly.{key-few-by, exactly-when}
+use Rattle.renewal.proofs.Runs.{key-few-by}
+use Rattle.renewal.proofs.Exactly.{exactly-when}
 
 -- ---- for a text that passed the checks
 stored-bytes : (bytes key : List ℕ) {key′ : List ℕ} → key′ ≡ sets key 0 bytes → length bytes ≤ length key → key′ ≡ bytes ++ drop (length bytes) key

@@ -6,17 +6,16 @@ use native.Mathlib.Omega.{arith}
 use native.Mathlib.Nat.{add-zero}
 use native.Mathlib.Numerals.{add-one, add-two, add-three}
 use mathlib.Core.Path.{_≡_, refl, ap, sym, _∙_}
-use mathlib.Core.Bool.{Bool, true, false, cond}
+use mathlib.Core.Bool.{Bool, true, false}
 use mathlib.Core.List.{List, [], _∷_, _++_}
 use lib.ListN.{length, take, drop, set, getD, length-set, length-append, length-take, length-drop, drop-of-length-le}
 use lib.Seq.{sets, drop-cons}
-use lib.Dec.{eqb}
 use borrow.Author.Tests.{eq-eqb, ne-eqb}
 use Rattle.lists.proofs.Bools.{on-cond}
-use Rattle.lists.specs.Put.{Put}
+use Rattle.lists.specs.Put.{Put, PutIf}
 use Rattle.lists.proofs.Put.{sets-append, put-then}
 use Rattle.renewal.specs.Key.{noBody, bodyLength, digits, word, bodyOf, texts, held, encode}
-use Rattle.renewal.specs.Steps.{member, entry, sizeBy, BodyFits, Writable, Ready, Entered}
+use Rattle.renewal.specs.Steps.{member, entry, sizeBy, BodyFits, Writable, Ready}
 use Rattle.renewal.proofs.Words.{digits-length}
 use Rattle.renewal.proofs.Texts.{texts-nil, texts-length, texts-at}
 use Rattle.renewal.proofs.Prefix.{held-empty, held-stored}
@@ -189,7 +188,7 @@ pub size-stored : (body n : ℕ) {r : ℕ} → (body ≡ 0 → ⊥) → r ≡ 1 
 size-stored body n e u = rw (ne-eqb body 0 e) u
 
 module _ (kind suff : ℕ) (text : List ℕ) {body : ℕ} (b : body ≡ bodyLength kind) where
-  pub entered-none : {write : Bool} {k : ℕ} {key key′ : List ℕ} → body ≡ noBody → key′ ≡ key → Entered write key k (entry (member kind suff text)) key′ k
+  pub entered-none : {write : Bool} {k : ℕ} {key key′ : List ℕ} → body ≡ noBody → key′ ≡ key → PutIf write key k (entry (member kind suff text)) key′ k
   unfolding entry
   entered-none {write} {k} {key} n e =
       let z : entry (member kind suff text) ≡ [] = rw (eq-eqb (bodyLength kind) noBody (sym b ∙ n)) in
@@ -203,10 +202,10 @@ module _ (kind suff : ℕ) (text : List ℕ) {body : ℕ} (b : body ≡ bodyLeng
     pub writable : {table key : List ℕ} {write : Bool} {k : ℕ} → Ready table write k kind suff text key → write ≡ true → Writable body k kind suff text key
     writable r t = record { body-is = b; stands = n; short = r .short; room = rw entry-is at (r .room t) }
 
-    pub entered-written : {write : Bool} {k r : ℕ} {key key′ : List ℕ} → write ≡ true → Put key k (encode (held (member kind suff text))) key′ r → Entered write key k (entry (member kind suff text)) key′ r
+    pub entered-written : {write : Bool} {k r : ℕ} {key key′ : List ℕ} → write ≡ true → Put key k (encode (held (member kind suff text))) key′ r → PutIf write key k (entry (member kind suff text)) key′ r
     entered-written t p = rw (entry-is, t) (record { same = p .same; next = p .next })
 
-    pub entered-sized : {write : Bool} {k m r : ℕ} {key key′ : List ℕ} → write ≡ false → m ≡ sizeBy body (length text) → r ≡ k + m → key′ ≡ key → Entered write key k (entry (member kind suff text)) key′ r
+    pub entered-sized : {write : Bool} {k m r : ℕ} {key key′ : List ℕ} → write ≡ false → m ≡ sizeBy body (length text) → r ≡ k + m → key′ ≡ key → PutIf write key k (entry (member kind suff text)) key′ r
     entered-sized {m = m} t u v e =
         let l : length (encode (held (member kind suff text))) ≡ m = size-is kind suff text (λ z. n (b ∙ z)) ∙ ap (λ (x : ℕ). sizeBy x (length text)) (sym b) ∙ sym u in
         rw (entry-is, t) (record { same = e; next = omega (arith, l) })

@@ -5,11 +5,11 @@ use mathlib.Core.Bool.{Bool, true, cond}
 use mathlib.Core.List.{List, [], _∷_, _++_}
 use Prim.Native.Nat.{ℕ, zero, suc, _+_, _*_, _/_, _≤_}
 use lib.Dec.{eqb}
-use lib.ListN.{length, drop}
+use lib.ListN.{length, take, drop, getD}
 use lib.Seq.{sets}
 use Rattle.unicode.specs.Utf8.{chars}
 use Rattle.text.specs.Answer.{Answered, done, longest, checkRoom}
-use Rattle.lexer.specs.Cut.{Tok, Letters, tokens}
+use Rattle.lexer.specs.Cut.{Tok, Letters, tokens, total}
 use Rattle.tokens.specs.Members.{Member}
 use Rattle.renewal.specs.Key.{noBody, bodyLength, held, encode, keyBy}
 
@@ -51,10 +51,25 @@ pub record Ready (table : List ℕ) (write : Bool) (k kind suff : ℕ) (text key
   pub low : k ≤ 11 * longest
   pub room : (write ≡ true → k + length (entry (member kind suff text)) ≤ length key)
 
--- bytes counted from place k on, and stored there where that is asked
-pub record Entered (write : Bool) (key : List ℕ) (k : ℕ) (vs : List ℕ) (key′ : List ℕ) (r : ℕ) : Type 0 where
-  pub same : key′ ≡ cond write (sets key k vs) key
-  pub next : r ≡ k + length vs
+-- ---- a run of tokens
+-- those that stand in a list of words from record i on, so many
+unfoldable pub toks : List ℕ → ℕ → ℕ → List Tok
+toks list i zero = []
+toks list i (suc n) = record { kind = getD list (3 * i) 0; len = getD list (3 * i + 1) 0; suff = getD list (3 * i + 2) 0 } ∷ toks list (suc i) n
+
+-- what the tokens at the front of a text add to the key
+unfoldable pub entries : List ℕ → List Tok → List ℕ
+entries s [] = []
+entries s (t ∷ ts) = entry (member (t .kind) (t .suff) (take (t .len) s)) ++ entries (drop (t .len) s) ts
+
+-- the tokens that a list holds, of a text from a place on, may be entered at place k
+pub record RunReady (table : List ℕ) (write : Bool) (k : ℕ) (s : List ℕ) (from : ℕ) (list : List ℕ) (count : ℕ) (key : List ℕ) : Type 0 where
+  pub table-is : table ≡ bodies
+  pub short : length s ≤ longest
+  pub words : 3 * count ≤ length list
+  pub within : from + total (toks list 0 count) ≤ length s
+  pub low : k + length (entries (drop from s) (toks list 0 count)) ≤ 11 * longest
+  pub room : (write ≡ true → k + length (entries (drop from s) (toks list 0 count)) ≤ length key)
 
 -- the tokens of a text over letters that are lent
 abbrev pub cutBy : Letters → ℕ → List ℕ → List Tok

@@ -2,10 +2,10 @@
 ghost use mathlib.Core.Path.{_≡_};
 ghost use mathlib.Core.List.{[], _∷_, _++_};
 ghost use Prim.Native.Nat.{_+_, _≤_, min};
-ghost use lib.ListN.{length, take};
-ghost use Rattle.lists.specs.Put.{Put};
+ghost use lib.ListN.{length, take, drop};
+ghost use Rattle.lists.specs.Put.{Put, PutIf};
 ghost use Rattle.renewal.specs.Key.{word, texts, held, encode};
-ghost use Rattle.renewal.specs.Steps.{sizeBy, member, entry, BodyFits, Writable, Ready, Entered};
+ghost use Rattle.renewal.specs.Steps.{sizeBy, member, entry, toks, entries, BodyFits, Writable, Ready, RunReady};
 use crate::table::NO_BODY;
 use crate::table::body_length;
 
@@ -104,7 +104,7 @@ fn record_size(body: u8, len: usize) -> usize
 }
 
 // Counts the bytes of a token in the key from place k on, and writes them where `write` says so.
-pub fn put_member(
+fn put_member(
     key: &mut [u8],
     write: bool,
     k: usize,
@@ -114,7 +114,7 @@ pub fn put_member(
     table: &[u8],
 ) -> usize
     requires { ⌜ Ready (now table) write k kind suffix (now text) (now key) ⌝ }
-    ensures { λ r. ⌜ Entered write (now (key .entry)) k (entry (member kind suffix (now (text .entry)))) (now (key .exit)) r ⌝ }
+    ensures { λ r. ⌜ PutIf write (now (key .entry)) k (entry (member kind suffix (now (text .entry)))) (now (key .exit)) r ⌝ }
 {
     let body = body_length(table, kind);
     if body == NO_BODY {
@@ -124,4 +124,32 @@ pub fn put_member(
         return put_record(key, k, kind, body, suffix, text);
     }
     k + record_size(body, text.len())
+}
+
+// The same of a run of tokens, whose words stand in a list, of a text from a place on.
+pub fn put_members(
+    key: &mut [u8],
+    write: bool,
+    k: usize,
+    text: &[u8],
+    from: usize,
+    list: &[u32],
+    count: usize,
+    table: &[u8],
+) -> usize
+    requires { ⌜ RunReady (now table) write k (now text) from (now list) count (now key) ⌝ }
+    ensures { λ r. ⌜ PutIf write (now (key .entry)) k (entries (drop from (now (text .entry))) (toks (now (list .entry)) 0 count)) (now (key .exit)) r ⌝ }
+{
+    let mut at = from;
+    let mut i: usize = 0;
+    let mut n = k;
+    while i < count {
+        let kind = list[3 * i];
+        let end = at + list[3 * i + 1] as usize;
+        let suffix = list[3 * i + 2];
+        n = put_member(key, write, n, kind, suffix, &text[at..end], table);
+        at = end;
+        i = i + 1;
+    }
+    n
 }

@@ -8,13 +8,13 @@ ghost use Rattle.lexer.specs.Outcome.{tokensOf};
 ghost use Rattle.lexer.specs.Unicode.{lent};
 ghost use Rattle.renewal.specs.Key.{keyBy};
 ghost use Rattle.renewal.specs.Steps.{bodies, cutBy, Walked, Stored};
-use crate::records::put_member;
+use crate::records::put_members;
 use crate::table;
-use lexer::advance::advance_token;
+use lexer::list::cut_run;
 use text::Answer;
 use unicode::tables;
 
-// Sizes the key, and writes it where `write` says so: one loop for both, so that the cutter is compiled into it once.
+// Sizes the key by runs of 64 tokens, and writes it where `write` says so.
 fn walk(
     text: &[u8],
     profile: u32,
@@ -28,14 +28,13 @@ fn walk(
     requires { ⌜ (length (now text) ≤ longest) × (now body ≡ bodies) × (write ≡ true → length (keyBy (cutBy (lent (now start) (now more) (now emoji)) profile) (now text)) ≤ length (now key)) ⌝ }
     ensures { λ r. ⌜ Walked (cutBy (lent (now (start .entry)) (now (more .entry)) (now (emoji .entry))) profile) (now (text .entry)) write (now (key .entry)) r (now (key .exit)) ⌝ }
 {
+    let mut list = [0u32; 192];
     let mut at: usize = 0;
     let mut n: usize = 0;
     while at < text.len() {
-        let t = advance_token(text, at, profile, start, more, emoji);
-        let suffix = (t.mark - at) as u32;
-        let end = t.end;
-        n = put_member(key, write, n, t.kind, suffix, &text[at..end], body);
-        at = end;
+        let r = cut_run(text, at, profile, &mut list, start, more, emoji);
+        n = put_members(key, write, n, text, at, &list, r.count, body);
+        at = r.at;
     }
     n
 }

@@ -1,4 +1,4 @@
-use Rattle.lexer.proofs.Whole.{not-writing}
+use mathlib.Core.Bool.{false≢true}
 use Rattle.renewal.proofs.Whole.{room-enough, stored-all, stored-none, stored-twice}
 use borrow.Author.Needs.{needs}
 use Rattle.renewal.proofs.walk.store.Statement.{statement}
@@ -14,7 +14,7 @@ returns : tie.Need-returns
 returns c = search (needs, stored-all)
 
 walk-requires-2 : tie.Need-walk-requires-2
-walk-requires-2 c κs = (search needs, search needs, not-writing)
+walk-requires-2 c κs = (search needs, search needs, λ t. absurd (false≢true t))
 
 same-length-2 : tie.Need-same-length-2
 same-length-2 c = search needs

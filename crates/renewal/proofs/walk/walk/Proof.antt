@@ -1,56 +1,49 @@
 use Prim.Native.Nat.{_-_}
 use native.Mathlib.Omega.{arith}
+use mathlib.Core.Path.{_≡_}
 use lib.ListN.{length}
 use Rattle.lexer.specs.Unicode.{lent}
-use Rattle.lexer.proofs.Advancing.{end-some, end-within, mark-after, mark-within}
 use Rattle.renewal.specs.Steps.{cutBy}
 use Rattle.renewal.proofs.Walking.{Walking, walking-none}
-use Rattle.renewal.proofs.Cutter.{step-ready, step-on, steps-end}
+use Rattle.renewal.proofs.Cutter.{run-ready, run-on, run-less, run-done}
 use borrow.Author.Needs.{needs}
 use Rattle.renewal.proofs.walk.walk.Statement.{statement}
 use Rattle.renewal.proofs.walk.walk.Tie as tie
 
 abbrev Inv-loop : tie.InvT-loop
-Inv-loop text profile write key₀ body start more emoji at₀ n₀ key at n = Walking (cutBy (lent start more emoji) profile) text write key₀ at n key
+Inv-loop text profile write key₀ body start more emoji list₀ at₀ n₀ key list at n = (length list ≡ 192) × Walking (cutBy (lent start more emoji) profile) text write key₀ at n key
 
 abbrev μ-loop : tie.MeasureT-loop
-μ-loop text profile write key₀ body start more emoji at₀ n₀ key at n = length text - at
+μ-loop text profile write key₀ body start more emoji list₀ at₀ n₀ key list at n = length text - at
 
 loop-holds : tie.Need-loop-holds Inv-loop μ-loop
 loop-holds c = search (needs, walking-none)
 
-advance-token-requires : tie.Need-advance-token-requires Inv-loop μ-loop
-advance-token-requires c κs = search needs
+slice-aggregate-cut-run : tie.Need-slice-aggregate-cut-run Inv-loop μ-loop
+slice-aggregate-cut-run c = search needs
 
-sub-suffix : tie.Need-sub-suffix Inv-loop μ-loop
-sub-suffix c = omega (arith, mark-after)
+cut-run-requires : tie.Need-cut-run-requires Inv-loop μ-loop
+cut-run-requires c κs = search needs
 
-cast-suffix : tie.Need-cast-suffix Inv-loop μ-loop
-cast-suffix c = omega (arith, mark-within)
+slice-aggregate-put-members : tie.Need-slice-aggregate-put-members Inv-loop μ-loop
+slice-aggregate-put-members c = search needs
 
-sub-put-member : tie.Need-sub-put-member Inv-loop μ-loop
-sub-put-member c = omega (arith, end-some)
-
-part-put-member-start : tie.Need-part-put-member-start Inv-loop μ-loop
-part-put-member-start c = omega (arith, end-some)
-
-part-put-member-end : tie.Need-part-put-member-end Inv-loop μ-loop
-part-put-member-end c = omega (arith, end-within)
-
-put-member-requires : tie.Need-put-member-requires Inv-loop μ-loop
-put-member-requires c κs = search (needs, step-ready)
+put-members-requires : tie.Need-put-members-requires Inv-loop μ-loop
+put-members-requires c κs =
+    run-ready (c .before .before .before .before .before .before .loop .inv .0) (c .before .before .before .before .before .before .before .before .before .before .before .before .before .pre .0) (c .before .before .before .cut-run .ensures) (c .before .before .before .before .before .before .loop .inv .1) (c .before .before .before .before .before .before .before .before .before .before .before .before .before .pre .1)
 
 loop-less : tie.Need-loop-less Inv-loop μ-loop
-loop-less c = omega (arith, end-some)
+loop-less c =
+    omega (arith, run-less (c .before .before .before .before .before .before .before .before .before .loop .inv .0) (c .before .before .before .before .before .before .before .before .before .before .before .before .before .before .before .before .pre .0) (c .before .before .before .before .before .before .cut-run .ensures) (c .before .before .before .before .before .before .before .before .loop-test .taken))
 
 loop-again : tie.Need-loop-again Inv-loop μ-loop
-loop-again c = search (needs, step-on)
+loop-again c = search (needs, run-on)
 
 same-length : tie.Need-same-length Inv-loop μ-loop
 same-length c = search needs
 
 returns : tie.Need-returns Inv-loop μ-loop
-returns c = search (needs, steps-end)
+returns c = search (needs, run-done)
 
 pub walk-spec : {M : Type 1} → statement M
 walk-spec =
@@ -59,13 +52,10 @@ walk-spec =
     Inv-loop
     μ-loop
     loop-holds
-    advance-token-requires
-    sub-suffix
-    cast-suffix
-    sub-put-member
-    part-put-member-start
-    part-put-member-end
-    put-member-requires
+    slice-aggregate-cut-run
+    cut-run-requires
+    slice-aggregate-put-members
+    put-members-requires
     loop-less
     loop-again
     same-length
