@@ -13,7 +13,6 @@ use crate::cursor::Cursor;
 use crate::cursor::is_digit;
 use crate::cursor::is_id_start_in;
 use crate::cursor::is_wide_emoji;
-use letters::is_whitespace;
 use crate::kinds;
 use crate::numbers::eat_literal_suffix;
 use crate::numbers::has_timing_or_imaginary_suffix;
@@ -23,6 +22,7 @@ use crate::words::annotation;
 use crate::words::hardware_ident;
 use crate::words::ident_or_unknown_prefix;
 use crate::words::pound;
+use letters::is_whitespace;
 use unicode::utf8::decode;
 
 // A token: its kind, the place where its suffix starts (its own start, where it has none), and its end.

@@ -15,12 +15,11 @@ mod numbers;
 mod quotes;
 mod words;
 
+use cursor::Cursor;
+use cursor::is_id_start_in;
 pub use letters::is_id_continue;
 pub use letters::is_id_start;
 pub use letters::is_whitespace;
-
-use cursor::Cursor;
-use cursor::is_id_start_in;
 use text::Answer;
 use text::check_text;
 use unicode::tables;
