@@ -13,7 +13,7 @@ use Rattle.letters.specs.Chars.{whitespace}
 use Rattle.lexer.specs.Kinds.{marks, markIn}
 use Rattle.lexer.specs.Unicode.{unicode}
 use Rattle.lexer.specs.Outcome.{tokensOf, outcome, listed}
-use Rattle.unescape.specs.Modes.{isSingle, isRaw, charactersShouldBeAscii}
+use Rattle.modes.specs.Modes.{isSingle, isRaw, charactersShouldBeAscii}
 use Rattle.unescape.specs.Escapes.{toDigit, hexDigit, hexEscape, firstDigit, moreDigits, codePoint, closing, braced, unicodeEscape, simple, escape, asciiCheck}
 use Rattle.unescape.specs.Bodies.{alone, oneChar, charOrByte, items, itemsOf, flat as flatItems}
 use Rattle.unescape.specs.Outcome.{outcome as bodyOutcome, listed as bodyListed}

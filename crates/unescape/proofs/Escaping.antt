@@ -12,7 +12,7 @@ use Rattle.unicode.specs.Text.{Decoded, Ate}
 use Rattle.unicode.proofs.Text.{decoded-end}
 use Rattle.unescape.specs.declared.escapes.Escape.{Escape}
 use Rattle.unescape.specs.declared.escapes.Escape.the-variants.{Value, Error}
-use Rattle.unescape.specs.Errors.{Outcome, char, error}
+use Rattle.modes.specs.Errors.{Outcome, char, error}
 use Rattle.unescape.specs.Escapes.{_then_, toDigit, hexDigit, hexEscape, firstDigit, orUnderscore, addDigit, moreDigits, codePoint, closing, braced, unicodeEscape, simple, escape}
 use Rattle.unescape.specs.Steps.{endOf, escapeAt, Scanned}
 use Rattle.unescape.proofs.Scans.{scanned-as, scanned-end, scanned-char, scanned-on, then-error, then-value}

@@ -12,7 +12,7 @@ use Rattle.lists.specs.Ends.{Ends}
 use Rattle.lists.proofs.Bools.{by-test, on-cond, both}
 use Rattle.lists.proofs.Ends.{ends-all, ends-cons, ends-then, ends-eat}
 use Rattle.unicode.specs.Utf8.{isScalar}
-use Rattle.unescape.specs.Errors.{Outcome, char, error, zeroChars, outOfRangeHexEscape, unskippedWhitespaceWarning}
+use Rattle.modes.specs.Errors.{Outcome, char, error, zeroChars, outOfRangeHexEscape, unskippedWhitespaceWarning}
 use Rattle.unescape.specs.Escapes.{_then_, toDigit, isHex, hexDigit, hexEscape, firstDigit, moreDigits, orUnderscore, addDigit, codePoint, closing, braced, unicodeEscape, simple, escape, asciiCheck}
 use Rattle.unescape.specs.Bodies.{alone, isEscapeOnly, oneChar, charOrByte, strChar, rawChar}
 

@@ -4,7 +4,6 @@ pub mod Escaping
 pub mod Fair
 pub mod Turns
 pub mod Whole
-pub mod Tests
 pub mod Order
 pub mod Samples
 pub mod Unique

@@ -25,8 +25,8 @@ use Rattle.unicode.proofs.Text.{ends-bytes, chars-nil, chars-first, bytes-chars
 use Rattle.unicode.proofs.Valid.{width-some, well-formed-encoded, read-back}
 use Rattle.text.specs.Answer.{Answered, done, checkText}
 use Rattle.text.proofs.Checks.{accepted}
-use Rattle.unescape.specs.Modes.{charMode, byteMode, isRaw, isSingle, charactersShouldBeAscii}
-use Rattle.unescape.specs.Errors.{Outcome, char, error, number, outOfRangeHexEscape}
+use Rattle.modes.specs.Modes.{charMode, byteMode, isRaw, isSingle, charactersShouldBeAscii}
+use Rattle.modes.specs.Errors.{Outcome, char, error, number, outOfRangeHexEscape}
 use Rattle.unescape.specs.Escapes.{escape, asciiCheck}
 use Rattle.unescape.specs.Bodies.{Item, charOrByte, strChar, rawChar, isSkipped, sawLf, item, one, unskipped, skipped, slashed, strCommon, rawStr, turn, turns, items, itemsOf}
 use Rattle.unescape.specs.Outcome.{single}

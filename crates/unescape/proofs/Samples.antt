@@ -1,6 +1,6 @@
 -- Worked examples, computed: the scope's two starred ones first; and programs that the promises rule out.
 -- Assumes nothing.
-use Prim.Native.Nat.{ℕ, _%_}
+use Prim.Native.Nat.{ℕ}
 use native.Mathlib.Omega.{arith}
 use mathlib.Core.Path.{_≡_, refl}
 use mathlib.Core.Bool.{true, false}
@@ -12,15 +12,15 @@ use Rattle.unicode.specs.Utf8.{table, behind, begins, joined as joinedBits, rea
 use Rattle.unicode.specs.Text.{bytes}
 use Rattle.unicode.specs.Ucd.{whiteSpace}
 use Rattle.text.specs.Answer.{Answered, done, unknownSelector, roomTooSmall, checkText}
-use Rattle.unescape.specs.Modes.{charMode, strMode, byteStrMode, rawByteStrMode, isSingle, inDoubleQuotes, charactersShouldBeAscii, isUnicodeEscapeDisallowed, hasPrefix, isRaw, testedMode}
-use Rattle.unescape.specs.Errors.{fatal, error, number, loneSurrogateUnicodeEscape, unicodeEscapeInByte, unskippedWhitespaceWarning}
+use Rattle.modes.specs.Modes.{strMode, isSingle, charactersShouldBeAscii, isRaw}
+use Rattle.modes.specs.Errors.{error, number, loneSurrogateUnicodeEscape, unicodeEscapeInByte, unskippedWhitespaceWarning}
 use Rattle.unescape.specs.Escapes.{toDigit, hexDigit, hexEscape, firstDigit, moreDigits, codePoint, closing, braced, unicodeEscape, simple, escape, asciiCheck}
 use Rattle.unescape.specs.Bodies.{alone, oneChar, charOrByte, strChar, rawChar, unskipped, skipped, slashed, strCommon, rawStr, turn, joined, turns, items, itemsOf, flat}
 use Rattle.unescape.specs.Outcome.{outcome, listed, Unescaped, part, single}
 
 -- to unfold this is to unfold all that the examples compute with
 definitions : ℕ
-unfolding cut pieces eat inTable table behind begins joinedBits readBy first next chars width isScalar goodBytes validUpTo bytes whiteSpace checkText isSingle isRaw charactersShouldBeAscii toDigit hexDigit hexEscape firstDigit moreDigits codePoint closing braced unicodeEscape simple escape asciiCheck alone oneChar charOrByte strChar rawChar unskipped skipped slashed strCommon rawStr turn joined turns items itemsOf flat inDoubleQuotes hasPrefix outcome listed single
+unfolding cut pieces eat inTable table behind begins joinedBits readBy first next chars width isScalar goodBytes validUpTo bytes whiteSpace checkText isSingle isRaw charactersShouldBeAscii toDigit hexDigit hexEscape firstDigit moreDigits codePoint closing braced unicodeEscape simple escape asciiCheck alone oneChar charOrByte strChar rawChar unskipped skipped slashed strCommon rawStr turn joined turns items itemsOf flat outcome listed single
 definitions = 0
 
 -- a mode, a body, and the words of its items
@@ -111,28 +111,3 @@ rules-out-first-of-two a = let z : _≡_ {A = ℕ} 0x61 1114114 = a .also-is in 
 pub rules-out-wide-byte : Answered (single true (0xC3 ∷ 0xA9 ∷ [])) done 0xE9 → ⊥
 unfolding definitions
 rules-out-wide-byte a = let z : _≡_ {A = ℕ} 0xE9 1114132 = a .also-is in omega arith
-
--- the greatest byte for what is no byte
-pub rules-out-saturating : 255 ≡ 256 % 256 → ⊥
-rules-out-saturating e = omega arith
-
--- Char in double quotes; any character in RawByteStr; \u{..} in ByteStr; the r of `br` in the prefix
-pub rules-out-char-in-double-quotes : Answered (testedMode inDoubleQuotes charMode) done 1 → ⊥
-unfolding definitions
-rules-out-char-in-double-quotes a = let z : _≡_ {A = ℕ} 1 0 = a .also-is in omega arith
-
-pub rules-out-raw-not-ascii : Answered (testedMode charactersShouldBeAscii rawByteStrMode) done 0 → ⊥
-unfolding definitions
-rules-out-raw-not-ascii a = let z : _≡_ {A = ℕ} 0 1 = a .also-is in omega arith
-
-pub rules-out-unicode-in-bytes : Answered (testedMode isUnicodeEscapeDisallowed byteStrMode) done 0 → ⊥
-unfolding definitions
-rules-out-unicode-in-bytes a = let z : _≡_ {A = ℕ} 0 1 = a .also-is in omega arith
-
-pub rules-out-raw-prefix : Answered (testedMode hasPrefix rawByteStrMode) done 2 → ⊥
-unfolding definitions
-rules-out-raw-prefix a = let z : _≡_ {A = ℕ} 2 1 = a .also-is in omega arith
-
--- errors counted from 0
-pub rules-out-error-0 : {also : ℕ} → Answered (fatal 0) done also → ⊥
-rules-out-error-0 a = let z : _≡_ {A = ℕ} 0 1 = a .number-is in omega arith

@@ -12,7 +12,7 @@ use Rattle.unicode.proofs.Text.{decoded-point, left-end}
 use Rattle.unescape.specs.declared.escapes.Escape.{Escape}
 use Rattle.unescape.specs.declared.escapes.Escape.the-variants.{Value, Error}
 use Rattle.unescape.specs.declared.bodies.Step.{Step}
-use Rattle.unescape.specs.Errors.{Outcome, char, error}
+use Rattle.modes.specs.Errors.{Outcome, char, error}
 use Rattle.unescape.specs.Escapes.{_then_}
 use Rattle.unescape.specs.Steps.{resultOf, endOf, valueOf, errorOf, escapeAt, stepOf, Scanned}
 

@@ -18,8 +18,8 @@ use Rattle.unicode.proofs.Text.{decoded-point, decoded-end, decoded-fits, left-
 use Rattle.unescape.specs.declared.escapes.Escape.{Escape}
 use Rattle.unescape.specs.declared.escapes.Escape.the-variants.{Value, Error}
 use Rattle.unescape.specs.declared.bodies.Step.{Step}
-use Rattle.unescape.specs.Modes.{isRaw, charactersShouldBeAscii}
-use Rattle.unescape.specs.Errors.{Outcome, char, error, number}
+use Rattle.modes.specs.Modes.{isRaw, charactersShouldBeAscii}
+use Rattle.modes.specs.Errors.{Outcome, char, error, number}
 use Rattle.unescape.specs.Escapes.{escape, asciiCheck}
 use Rattle.unescape.specs.Bodies.{Item, alone, isEscapeOnly, oneChar, charOrByte, strChar, rawChar, isSkipped, sawLf, one, unskipped, skipped, slashed, strCommon, rawStr, turn}
 use Rattle.unescape.specs.Steps.{resultOf, endOf, errorOf, escapeAt, stepOf, given, Scanned, Stepped, Behind, onFirst}

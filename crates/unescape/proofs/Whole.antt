@@ -26,8 +26,8 @@ use Rattle.text.specs.Answer.{Answered, done, unknownSelector, roomTooSmall, lo
 use Rattle.text.proofs.Checks.{accepted}
 use Rattle.unescape.specs.declared.escapes.Escape.{Escape}
 use Rattle.unescape.specs.declared.bodies.Step.{Step}
-use Rattle.unescape.specs.Modes.{isRaw, isSingle, charactersShouldBeAscii, byteMode}
-use Rattle.unescape.specs.Errors.{Outcome, error, number}
+use Rattle.modes.specs.Modes.{isRaw, isSingle, charactersShouldBeAscii, byteMode}
+use Rattle.modes.specs.Errors.{Outcome, error, number}
 use Rattle.unescape.specs.Escapes.{escape}
 use Rattle.unescape.specs.Bodies.{Item, charOrByte, strChar, rawChar, isSkipped, sawLf, item, one, unskipped, skipped, slashed, strCommon, rawStr, turn, joined, turns, items, itemsOf, flat}
 use Rattle.unescape.specs.Steps.{endOf, stepOf, given, Scanned, onFirst, Stepped, wordsOf, Walked, Stored}

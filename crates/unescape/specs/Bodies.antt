@@ -10,8 +10,8 @@ use Rattle.lists.specs.Eat.{eat}
 use Rattle.unicode.specs.Utf8.{chars}
 use Rattle.unicode.specs.Text.{bytes}
 use Rattle.unicode.specs.Properties.{isWhiteSpace}
-use Rattle.unescape.specs.Modes.{byteMode, isSingle, isRaw, charactersShouldBeAscii}
-use Rattle.unescape.specs.Errors.{Outcome, char, error, number, zeroChars, moreThanOneChar, bareCarriageReturn, bareCarriageReturnInRawString, escapeOnlyChar, unskippedWhitespaceWarning, multipleSkippedLinesWarning}
+use Rattle.modes.specs.Modes.{byteMode, isSingle, isRaw, charactersShouldBeAscii}
+use Rattle.modes.specs.Errors.{Outcome, char, error, number, zeroChars, moreThanOneChar, bareCarriageReturn, bareCarriageReturnInRawString, escapeOnlyChar, unskippedWhitespaceWarning, multipleSkippedLinesWarning}
 use Rattle.unescape.specs.Escapes.{escape, asciiCheck}
 
 -- ---- Char and Byte: one character

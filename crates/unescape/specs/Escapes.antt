@@ -7,7 +7,7 @@ use lib.Dec.{eqb, leb, ltb}
 use Rattle.lists.specs.Eat.{eat}
 use Rattle.unicode.specs.Ranges.{_to_, inRange}
 use Rattle.unicode.specs.Utf8.{isScalar}
-use Rattle.unescape.specs.Errors.{Outcome, char, error, loneSlash, invalidEscape, tooShortHexEscape, invalidCharInHexEscape, noBraceInUnicodeEscape, invalidCharInUnicodeEscape, emptyUnicodeEscape, unclosedUnicodeEscape, leadingUnderscoreUnicodeEscape, overlongUnicodeEscape, loneSurrogateUnicodeEscape, outOfRangeUnicodeEscape, unicodeEscapeInByte, nonAsciiCharInByte}
+use Rattle.modes.specs.Errors.{Outcome, char, error, loneSlash, invalidEscape, tooShortHexEscape, invalidCharInHexEscape, noBraceInUnicodeEscape, invalidCharInUnicodeEscape, emptyUnicodeEscape, unclosedUnicodeEscape, leadingUnderscoreUnicodeEscape, overlongUnicodeEscape, loneSurrogateUnicodeEscape, outOfRangeUnicodeEscape, unicodeEscapeInByte, nonAsciiCharInByte}
 
 -- a character goes on; an error ends the escape
 infixr 20 _then_

@@ -1,5 +1,3 @@
-pub mod Modes
-pub mod Errors
 pub mod Escapes
 pub mod Bodies
 pub mod Steps

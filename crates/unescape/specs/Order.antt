@@ -7,8 +7,8 @@ use mathlib.Core.List.{List, [], _∷_}
 use lib.Dec.{eqb, leb}
 use Rattle.unicode.specs.Utf8.{isScalar, width}
 use Rattle.unicode.specs.Properties.{isWhiteSpace}
-use Rattle.unescape.specs.Modes.{charactersShouldBeAscii}
-use Rattle.unescape.specs.Errors.{error, number, zeroChars, outOfRangeHexEscape, unskippedWhitespaceWarning, multipleSkippedLinesWarning}
+use Rattle.modes.specs.Modes.{charactersShouldBeAscii}
+use Rattle.modes.specs.Errors.{error, number, zeroChars, outOfRangeHexEscape, unskippedWhitespaceWarning, multipleSkippedLinesWarning}
 use Rattle.unescape.specs.Escapes.{asciiCheck}
 use Rattle.unescape.specs.Bodies.{Item}
 

@@ -8,8 +8,8 @@ use lib.Dec.{eqb}
 use lib.ListN.{length, take, drop}
 use Rattle.unicode.specs.Utf8.{chars}
 use Rattle.text.specs.Answer.{Answered, done, checkText, checkRoom, _andThen_}
-use Rattle.unescape.specs.Modes.{checkMode}
-use Rattle.unescape.specs.Errors.{number}
+use Rattle.modes.specs.Modes.{checkMode}
+use Rattle.modes.specs.Errors.{number}
 use Rattle.unescape.specs.Bodies.{charOrByte, itemsOf, flat}
 
 -- ---- unescape_literal

@@ -12,7 +12,7 @@ use Rattle.text.specs.Answer.{Answered, done, checkRoom}
 use Rattle.unescape.specs.declared.escapes.Escape.{Escape}
 use Rattle.unescape.specs.declared.escapes.Escape.the-variants.{Value, Error}
 use Rattle.unescape.specs.declared.bodies.Step.{Step}
-use Rattle.unescape.specs.Errors.{Outcome, char, error, number, unskippedWhitespaceWarning}
+use Rattle.modes.specs.Errors.{Outcome, char, error, number, unskippedWhitespaceWarning}
 use Rattle.unescape.specs.Bodies.{Item, flat}
 
 -- ---- the answer of a scanner: what it says, and the place behind it

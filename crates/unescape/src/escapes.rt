@@ -5,7 +5,7 @@ ghost use lib.ListN.{length};
 ghost use Rattle.unicode.specs.Text.{Ate};
 ghost use Rattle.unescape.specs.Escapes.{toDigit, hexDigit, hexEscape, firstDigit, orUnderscore, counted, valued, addDigit, codePoint, closing, braced, unicodeEscape, simple, escape, asciiCheck};
 ghost use Rattle.unescape.specs.Steps.{escapeAt, valueOf, Scanned};
-use crate::errors;
+use modes::errors;
 use unicode::utf8::decode;
 
 // What a scan found, a character or an error, and the place behind what it read.

@@ -11,8 +11,7 @@ ghost use Rattle.unescape.specs.Steps.{wordsOf, Walked, Stored};
 use crate::bodies::item;
 use crate::bodies::turn;
 use crate::bodies::unescape_char_or_byte;
-use crate::errors;
-use crate::modes;
+use modes::errors;
 use text::Answer;
 use unicode::utf8::NO_CHAR;
 

@@ -1,8 +1,8 @@
-use Rattle.unescape.specs.Modes.{hasPrefix}
-use Rattle.unescape.proofs.Tests.{tested}
+use Rattle.modes.specs.Modes.{hasPrefix}
+use Rattle.modes.proofs.Tests.{tested}
 use borrow.Author.Needs.{needs}
-use Rattle.unescape.proofs.prefix_noraw.Statement.{statement}
-use Rattle.unescape.proofs.prefix_noraw.Tie as tie
+use Rattle.modes.proofs.prefix_noraw.Statement.{statement}
+use Rattle.modes.proofs.prefix_noraw.Tie as tie
 
 has-prefix-requires : tie.Need-has-prefix-requires
 has-prefix-requires c κs = search needs

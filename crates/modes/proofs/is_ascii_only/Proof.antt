@@ -1,7 +1,7 @@
 use borrow.Author.Tests.{ne-eqb}
-use Rattle.unescape.specs.Modes.{charactersShouldBeAscii}
-use Rattle.unescape.proofs.modes.is_ascii_only.Statement.{statement}
-use Rattle.unescape.proofs.modes.is_ascii_only.Tie as tie
+use Rattle.modes.specs.Modes.{charactersShouldBeAscii}
+use Rattle.modes.proofs.is_ascii_only.Statement.{statement}
+use Rattle.modes.proofs.is_ascii_only.Tie as tie
 
 returns : tie.Need-returns
 unfolding charactersShouldBeAscii

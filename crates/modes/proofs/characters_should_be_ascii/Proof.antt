@@ -1,8 +1,8 @@
-use Rattle.unescape.specs.Modes.{charactersShouldBeAscii}
-use Rattle.unescape.proofs.Tests.{tested}
+use Rattle.modes.specs.Modes.{charactersShouldBeAscii}
+use Rattle.modes.proofs.Tests.{tested}
 use borrow.Author.Needs.{needs}
-use Rattle.unescape.proofs.characters_should_be_ascii.Statement.{statement}
-use Rattle.unescape.proofs.characters_should_be_ascii.Tie as tie
+use Rattle.modes.proofs.characters_should_be_ascii.Statement.{statement}
+use Rattle.modes.proofs.characters_should_be_ascii.Tie as tie
 
 is-ascii-only-requires : tie.Need-is-ascii-only-requires
 is-ascii-only-requires c κs = search needs

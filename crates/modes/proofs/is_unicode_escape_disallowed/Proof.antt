@@ -1,8 +1,8 @@
-use Rattle.unescape.specs.Modes.{isUnicodeEscapeDisallowed}
-use Rattle.unescape.proofs.Tests.{tested}
+use Rattle.modes.specs.Modes.{isUnicodeEscapeDisallowed}
+use Rattle.modes.proofs.Tests.{tested}
 use borrow.Author.Needs.{needs}
-use Rattle.unescape.proofs.is_unicode_escape_disallowed.Statement.{statement}
-use Rattle.unescape.proofs.is_unicode_escape_disallowed.Tie as tie
+use Rattle.modes.proofs.is_unicode_escape_disallowed.Statement.{statement}
+use Rattle.modes.proofs.is_unicode_escape_disallowed.Tie as tie
 
 is-ascii-only-requires : tie.Need-is-ascii-only-requires
 is-ascii-only-requires c κs = search needs

@@ -1,7 +1,7 @@
 use borrow.Author.Tests.{ne-eqb}
-use Rattle.unescape.specs.Modes.{isSingle}
-use Rattle.unescape.proofs.modes.is_single.Statement.{statement}
-use Rattle.unescape.proofs.modes.is_single.Tie as tie
+use Rattle.modes.specs.Modes.{isSingle}
+use Rattle.modes.proofs.is_single.Statement.{statement}
+use Rattle.modes.proofs.is_single.Tie as tie
 
 returns : tie.Need-returns
 unfolding isSingle

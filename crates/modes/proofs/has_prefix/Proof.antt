@@ -1,7 +1,7 @@
 use borrow.Author.Tests.{ne-eqb}
-use Rattle.unescape.specs.Modes.{hasPrefix}
-use Rattle.unescape.proofs.modes.has_prefix.Statement.{statement}
-use Rattle.unescape.proofs.modes.has_prefix.Tie as tie
+use Rattle.modes.specs.Modes.{hasPrefix}
+use Rattle.modes.proofs.has_prefix.Statement.{statement}
+use Rattle.modes.proofs.has_prefix.Tie as tie
 
 returns : tie.Need-returns
 unfolding hasPrefix

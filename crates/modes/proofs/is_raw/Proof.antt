@@ -1,7 +1,7 @@
 use borrow.Author.Tests.{ne-eqb}
-use Rattle.unescape.specs.Modes.{isRaw}
-use Rattle.unescape.proofs.modes.is_raw.Statement.{statement}
-use Rattle.unescape.proofs.modes.is_raw.Tie as tie
+use Rattle.modes.specs.Modes.{isRaw}
+use Rattle.modes.proofs.is_raw.Statement.{statement}
+use Rattle.modes.proofs.is_raw.Tie as tie
 
 returns : tie.Need-returns
 unfolding isRaw

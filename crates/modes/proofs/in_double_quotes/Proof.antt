@@ -1,8 +1,8 @@
-use Rattle.unescape.specs.Modes.{inDoubleQuotes}
-use Rattle.unescape.proofs.Tests.{tested, quoted}
+use Rattle.modes.specs.Modes.{inDoubleQuotes}
+use Rattle.modes.proofs.Tests.{tested, quoted}
 use borrow.Author.Needs.{needs}
-use Rattle.unescape.proofs.in_double_quotes.Statement.{statement}
-use Rattle.unescape.proofs.in_double_quotes.Tie as tie
+use Rattle.modes.proofs.in_double_quotes.Statement.{statement}
+use Rattle.modes.proofs.in_double_quotes.Tie as tie
 
 is-single-requires : tie.Need-is-single-requires
 is-single-requires c κs = search needs

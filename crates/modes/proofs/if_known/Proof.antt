@@ -1,7 +1,7 @@
-use Rattle.unescape.proofs.Tests.{mode-unknown, mode-known}
+use Rattle.modes.proofs.Tests.{mode-unknown, mode-known}
 use borrow.Author.Needs.{needs}
-use Rattle.unescape.proofs.if_known.Statement.{statement}
-use Rattle.unescape.proofs.if_known.Tie as tie
+use Rattle.modes.proofs.if_known.Statement.{statement}
+use Rattle.modes.proofs.if_known.Tie as tie
 
 returns : tie.Need-returns
 returns c = search (needs, mode-unknown)

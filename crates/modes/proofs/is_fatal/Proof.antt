@@ -1,7 +1,7 @@
-use Rattle.unescape.proofs.Tests.{fatal-below, fatal-above, fatal-known}
+use Rattle.modes.proofs.Tests.{fatal-below, fatal-above, fatal-known}
 use borrow.Author.Needs.{needs}
-use Rattle.unescape.proofs.is_fatal.Statement.{statement}
-use Rattle.unescape.proofs.is_fatal.Tie as tie
+use Rattle.modes.proofs.is_fatal.Statement.{statement}
+use Rattle.modes.proofs.is_fatal.Tie as tie
 
 returns : tie.Need-returns
 returns c = search (needs, fatal-below)

@@ -6,8 +6,8 @@ use mathlib.Core.Bool.{Bool, cond, not}
 use lib.Dec.{ltb}
 use borrow.Author.Tests.{lt-ltb, le-ltb, lt-leb, le-leb}
 use Rattle.text.specs.Answer.{Answered, done, unknownSelector, _andThen_}
-use Rattle.unescape.specs.Modes.{checkMode, isSingle, inDoubleQuotes, testedMode}
-use Rattle.unescape.specs.Errors.{fatal}
+use Rattle.modes.specs.Modes.{checkMode, isSingle, inDoubleQuotes, testedMode}
+use Rattle.modes.specs.Errors.{fatal}
 
 module _ (mode : ℕ) (x : ℕ × ℕ) {number also : ℕ} where
   pub mode-unknown : 7 ≤ mode → number ≡ unknownSelector → also ≡ 0 → Answered (checkMode mode andThen x) number also
