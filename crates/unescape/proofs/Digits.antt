@@ -1,32 +1,53 @@
 -- Hexadecimal digits: the laws of `toDigit`, and of the loop that reads the digits of \u{..}.
 -- Assumes nothing.
-use Prim.Native.Nat.{ℕ, suc, _+_, _-_, _*_, _^_, _≤_, _<_, min}
+use Prim.Native.Nat.{ℕ, zero, suc, _+_, _-_, _*_, _^_, _≤_, _<_, min}
 use native.Mathlib.Omega.{arith}
 use native.Mathlib.Nat.{pow-suc, pow-le-pow-right}
-use mathlib.Core.Path.{_≡_, ap, sym, _∙_}
+use mathlib.Core.Path.{_≡_, refl, ap, sym, _∙_}
 use mathlib.Core.Bool.{Bool, true, false, not}
 use mathlib.Core.List.{List}
-use lib.ListN.{length}
+use lib.ListN.{length, getD}
 use lib.Dec.{eqb, ltb}
-use borrow.Author.Tests.{lt-leb, ltb-true, ltb-false, not-false}
+use borrow.Author.Tests.{lt-leb, ltb-true, ltb-false, ne-eqb, not-false}
 use Rattle.lists.proofs.Bools.{by-test, and-false}
-use Rattle.unicode.specs.Text.{Decoded}
-use Rattle.unicode.proofs.Text.{decoded-point}
+use Rattle.unicode.specs.Text.{Ate}
+use Rattle.unicode.proofs.Ascii.{Going, going-none, going-on, going-halt, going-end}
 use Rattle.unescape.specs.Escapes.{toDigit, orUnderscore, counted, valued, addDigit}
+use Rattle.unescape.specs.Steps.{digitsFrom, digitValues}
 
--- ---- what is no digit
+-- ---- the table, and what lies outside
 pub digit-below : (c : ℕ) → c < 0x30 → 16 ≡ toDigit c
 unfolding toDigit
 digit-below c h = simp (lt-leb 0x30 c h, lt-leb 0x41 c (omega arith), lt-leb 0x61 c (omega arith))
 
-pub digit-above : (c : ℕ) → 0x66 < c → 16 ≡ toDigit c
+above : (c : ℕ) → 0x66 < c → 16 ≡ toDigit c
 unfolding toDigit
-digit-above c h =
+above c h =
     simp (lt-leb c 0x39 (omega arith), lt-leb c 0x46 (omega arith), lt-leb c 0x66 (omega arith), and-false)
 
--- by the place in the table
-pub digit-inside : (c i : ℕ) {d : ℕ} → d ≡ toDigit (i + 0x30) → i ≡ c - 0x30 → 0x30 ≤ c → d ≡ toDigit c
-digit-inside c i e f h = let g : i + 0x30 ≡ c = omega arith in e ∙ ap toDigit g
+from-at : (n k i : ℕ) → i < n → getD (digitsFrom k n) i 0 ≡ toDigit (k + i)
+unfolding digitsFrom
+from-at zero k i h = absurd (omega arith)
+from-at (suc n) k zero h = let e : k + 0 ≡ k = omega arith in rw e
+from-at (suc n) k (suc i) h = let e : k + suc i ≡ suc k + i = omega arith in rw e (from-at n (suc k) i (omega arith))
+
+values-long : length digitValues ≡ 55
+unfolding digitValues digitsFrom
+values-long = refl
+
+module _ (c : ℕ) {digits : List ℕ} {i : ℕ} (t : digits ≡ digitValues) (l : 0x30 ≤ c) (f : i ≡ c - 0x30) where
+  pub digit-read : {d : ℕ} → i < length digits → d ≡ getD digits i 0 → d ≡ toDigit c
+  unfolding digitValues
+  digit-read h e =
+      let k : i < 55 = omega (arith, ap length t, values-long) in
+      e ∙ ap (λ (m : List ℕ). getD m i 0) t ∙ from-at 55 0x30 i k ∙ (let z : 0x30 + i ≡ c = omega arith in rw z)
+
+  pub digit-above : length digits ≤ i → 16 ≡ toDigit c
+  digit-above h = above c (omega (arith, ap length t, values-long))
+
+-- only ASCII is a digit
+pub digit-wide : (c : ℕ) → 0x80 ≤ c → orUnderscore c ≡ false
+digit-wide c h = rw (ne-eqb c 0x5F (λ e. omega arith), ← above c (omega arith))
 
 -- ---- the value of the first six digits
 abbrev cap : ℕ → ℕ
@@ -74,11 +95,19 @@ small-on c {n} {v} {n′} {v′} {b} s o t e f =
     rw (x, y) (record { below = rw j (rw i at (s .below)) })))
 
 -- no more digits than bytes
-pub count-few : {s : List ℕ} {at code wide n n′ at′ : ℕ} → Decoded s at code wide → at < length s → n ≤ at + 1 → n′ ≡ counted n code → at′ ≡ at + wide → n′ ≤ at′ + 1
-count-few {code = c} d l h e f =
-    let w = decoded-point d l .some in
-    rw e (by-test (eqb c 0x5F) (λ k. rw k (omega arith)) (λ k. rw k (omega arith)))
+pub count-few : (c at : ℕ) {n n′ at′ : ℕ} → n ≤ at + 1 → n′ ≡ counted n c → at′ ≡ at + 1 → n′ ≤ at′ + 1
+count-few c at h e f = rw e (by-test (eqb c 0x5F) (λ k. rw k (omega arith)) (λ k. rw k (omega arith)))
 
 -- one digit more, as the loop's law takes it
 pub added : (n v c : ℕ) {n′ v′ : ℕ} → n′ ≡ counted n c → v′ ≡ valued n v c → (n′, v′) ≡ addDigit (n, v) c
 added n v c e f = rw (e, f)
+
+-- where they end
+module _ {s : List ℕ} {at₀ at : ℕ} {x₀ x : ℕ × ℕ} (e : Going orUnderscore addDigit s at₀ x₀ at x) where
+  pub digits-halt : {c : ℕ} {f : Bool} → c ≡ getD s at 0 → at < length s → f ≡ orUnderscore c → not f ≡ true → Ate orUnderscore addDigit s at₀ x₀ at x
+  digits-halt = going-halt digit-wide e
+
+  pub digits-end : length s ≤ at → Ate orUnderscore addDigit s at₀ x₀ at x
+  digits-end = going-end digit-wide e
+
+pub ruleset digit-by-digit = (going-none, going-on, digits-halt, digits-end, added)

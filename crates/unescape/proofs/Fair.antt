@@ -75,7 +75,7 @@ first-digit-fair (c ∷ t) =
 
 module _ {isByte : Bool} {Q : ℕ → Type 0} (a : Allows isByte Q) where
   -- ---- escapes
-  hex-escape-fair : (l : List ℕ) → Fair Q l (hexEscape l)
+  pub hex-escape-fair : (l : List ℕ) → Fair Q l (hexEscape l)
   unfolding hexEscape
   hex-escape-fair l =
       then-fair (hexDigit l) _ (hex-digit-fair l)
@@ -104,13 +104,13 @@ module _ {isByte : Bool} {Q : ℕ → Type 0} (a : Allows isByte Q) where
       let f = closing-fair (d .0) (d .1) in
       record { told = f .told; ends = ends-then (ends-eat orUnderscore addDigit (1, v) t) (f .ends) })
 
-  unicode-escape-fair : (l : List ℕ) → Fair Q l (unicodeEscape isByte l)
+  pub unicode-escape-fair : (l : List ℕ) → Fair Q l (unicodeEscape isByte l)
   unfolding unicodeEscape
   unicode-escape-fair [] = record { told = refl; ends = ends-all _ }
   unicode-escape-fair (c ∷ t) =
       on-cond (Fair Q (c ∷ t)) (eqb c 0x7B) (fair-cons c (braced-fair t)) (record { told = refl; ends = ends-cons _ (ends-all _) })
 
-  simple-told : (c : ℕ) → Told Q (simple c)
+  pub simple-told : (c : ℕ) → Told Q (simple c)
   unfolding simple
   simple-told c =
       let P : Outcome → Type 0 = Told Q in

@@ -20,25 +20,32 @@ use Rattle.unescape.specs.declared.escapes.Escape.the-variants.{Value, E
 use Rattle.unescape.specs.declared.bodies.Step.{Step}
 use Rattle.modes.specs.Modes.{isRaw, charactersShouldBeAscii}
 use Rattle.modes.specs.Errors.{Outcome, char, error, number}
-use Rattle.unescape.specs.Escapes.{escape, asciiCheck}
+use Rattle.unescape.specs.Escapes.{hexEscape, unicodeEscape, simple, escape, asciiCheck}
 use Rattle.unescape.specs.Bodies.{Item, alone, isEscapeOnly, oneChar, charOrByte, strChar, rawChar, isSkipped, sawLf, one, unskipped, skipped, slashed, strCommon, rawStr, turn}
 use Rattle.unescape.specs.Steps.{resultOf, endOf, errorOf, escapeAt, stepOf, given, Scanned, Stepped, Behind, onFirst}
 use Rattle.unescape.proofs.Scans.{result-at, end-at, scanned-as, scanned-end, scanned-same, scanned-stay}
-use Rattle.unescape.proofs.Fair.{fault, Told, Any, allows-any, escape-fair, ascii-told, str-told, char-told}
+use Rattle.unescape.proofs.Fair.{fault, Told, Any, allows-any, hex-escape-fair, unicode-escape-fair, simple-told, ascii-told, str-told, char-told}
+use Rattle.unescape.proofs.Escaping.{escape-none}
 
 -- ---- the errors that are given
 told-few : (r : Escape) → Told Any (resultOf r) → errorOf r ≤ 22
 told-few (Value c end) h = omega arith
 told-few (Error e end) h = omega (arith, fault e h .few)
 
-pub escape-few : (isByte : Bool) {s : List ℕ} {at : ℕ} {r : Escape} → Scanned (escape isByte) s at r → errorOf r ≤ 22
-escape-few isByte {s} {at} {r} q = told-few r (rw (q .what) (escape-fair (allows-any isByte) (left s at) .told))
+pub hex-few : {s : List ℕ} {at : ℕ} {r : Escape} → Scanned hexEscape s at r → errorOf r ≤ 22
+hex-few {s} {at} {r} q = told-few r (rw (q .what) (hex-escape-fair (allows-any false) (left s at) .told))
+
+pub unicode-few : (isByte : Bool) {s : List ℕ} {at : ℕ} {r : Escape} → Scanned (unicodeEscape isByte) s at r → errorOf r ≤ 22
+unicode-few isByte {s} {at} {r} q = told-few r (rw (q .what) (unicode-escape-fair (allows-any isByte) (left s at) .told))
 
 pub char-or-byte-few : (isByte : Bool) {s : List ℕ} {at : ℕ} {r : Escape} → Scanned (charOrByte isByte) s at r → errorOf r ≤ 22
 char-or-byte-few isByte {s} {at} {r} q = told-few r (rw (q .what) (char-told (allows-any isByte) (left s at) (λ e c. tt)))
 
 at-few : (o : Outcome) (end : ℕ) {r : Escape} → Told Any o → r ≡ escapeAt o end → errorOf r ≤ 22
 at-few o end h e = rw e (told-few (escapeAt o end) (rw (result-at o end) h))
+
+pub simple-few : (c end : ℕ) {r : Escape} → r ≡ escapeAt (simple c) end → errorOf r ≤ 22
+simple-few c end e = at-few (simple c) end (simple-told (allows-any false) c) e
 
 pub ascii-few : (isByte : Bool) (c end : ℕ) {r : Escape} → r ≡ escapeAt (asciiCheck isByte c) end → errorOf r ≤ 22
 ascii-few isByte c end e = at-few (asciiCheck isByte c) end (ascii-told (allows-any isByte) c (λ e. tt)) e
@@ -96,28 +103,25 @@ module _ {s : List ℕ} {at c wide next : ℕ} (d : Decoded s at c wide) (l : at
       rw (view, eq-eqb c 0x5C h) (rw view at (b at (omega (arith, p .some))))
 
 -- ---- behind a backslash
-module _ {s : List ℕ} {at c wide : ℕ} (isByte : Bool) (d : Decoded s at c wide) (k : at ≤ length s) where
+pub slash-none : (isByte : Bool) {s : List ℕ} {at : ℕ} {r : Step} → length s ≤ at → at ≤ length s → r ≡ stepOf (Error 3 at) → Behind (λ from. slashed (length s) isByte from (left s at)) s at r
+unfolding slashed
+slash-none isByte {s} {at} h k e start l =
+    let v = left-end s at h in
+    rw v (rw v at (scan-step (escape isByte) {s = s} {at = at} (escape-none h k isByte) e start l))
+
+module _ {s : List ℕ} {at c wide : ℕ} (isByte : Bool) (d : Decoded s at c wide) (m : at < length s) where
   pub slash-skip : {next : ℕ} {r : Step} → c ≡ 0x0A → next ≡ at + wide → Behind (λ from. skipped (length s) from (eat isSkipped sawLf false (left s next))) s next r →
       Behind (λ from. slashed (length s) isByte from (left s at)) s at r
   unfolding slashed
   slash-skip {next} h u b start l =
-      elim (decLt at (length s)) [
-        | yes m ↦
-            let p = decoded-point d m in
-            let v : left s at ≡ c ∷ left s next = view d m u in
-            rw (v, eq-eqb c 0x0A h) (b start (omega arith))
-        | no n ↦ absurd (omega (arith, decoded-end d (omega arith) .0))
-      ]
+      let v : left s at ≡ c ∷ left s next = view d m u in
+      rw (v, eq-eqb c 0x0A h) (b start (omega arith))
 
   pub slash-escape : {read : Escape} {r : Step} → (c ≡ 0x0A → ⊥) → Scanned (escape isByte) s at read → r ≡ stepOf read → Behind (λ from. slashed (length s) isByte from (left s at)) s at r
   unfolding slashed
   slash-escape n q e start l =
-      elim (decLt at (length s)) [
-        | yes m ↦
-            let v : left s at ≡ c ∷ left s (at + wide) = decoded-point d m .view in
-            rw (v, ne-eqb c 0x0A n) (rw v at (scan-step (escape isByte) q e start l))
-        | no n ↦ rw (left-end s at (omega arith)) (rw (left-end s at (omega arith)) at (scan-step (escape isByte) q e start l))
-      ]
+      let v = decoded-point d m .view in
+      rw (v, ne-eqb c 0x0A n) (rw v at (scan-step (escape isByte) q e start l))
 
 -- ---- behind a backslash and a newline
 unskipped-is : {s : List ℕ} {start at c wide past : ℕ} {b : Bool} → Decoded s at c wide → start ≤ length s → b ≡ isWhiteSpace c → past ≡ at + wide →
@@ -217,4 +221,4 @@ module _ {s : List ℕ} {c wide : ℕ} {r : Escape} (isByte : Bool) (d : Decoded
         scanned-as (charOrByte isByte) (value-read ∙ rw (left-end s end h)) refl
         (record { after = omega arith; within = rw k at (q .place .within); there = left-end s end h })
 
-pub ruleset turning = (raw-return, raw-ascii, str-step, str-slash, slash-skip, slash-escape, skip-step, turn-raw, turn-str, one-escape, one-only, one-return, one-ascii, char-none)
+pub ruleset turning = (raw-return, raw-ascii, str-step, str-slash, slash-none, slash-skip, slash-escape, skip-step, turn-raw, turn-str, one-escape, one-only, one-return, one-ascii, char-none)

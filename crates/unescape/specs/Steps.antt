@@ -1,6 +1,6 @@
 -- What the unescaper's own functions answer, by the places that they reach.
 -- Assumes nothing.
-use Prim.Native.Nat.{ℕ, _/_, _≤_, _<_}
+use Prim.Native.Nat.{ℕ, zero, suc, _/_, _≤_, _<_}
 use mathlib.Core.Path.{_≡_}
 use mathlib.Core.Bool.{Bool, true, false, cond}
 use mathlib.Core.List.{List, [], _∷_, _++_}
@@ -13,7 +13,16 @@ use Rattle.unescape.specs.declared.escapes.Escape.{Escape}
 use Rattle.unescape.specs.declared.escapes.Escape.the-variants.{Value, Error}
 use Rattle.unescape.specs.declared.bodies.Step.{Step}
 use Rattle.modes.specs.Errors.{Outcome, char, error, number, unskippedWhitespaceWarning}
+use Rattle.unescape.specs.Escapes.{toDigit}
 use Rattle.unescape.specs.Bodies.{Item, flat}
+
+-- the constant table: what the 55 characters from 0 to f are worth
+unfoldable pub digitsFrom : ℕ → ℕ → List ℕ
+digitsFrom c zero = []
+digitsFrom c (suc n) = toDigit c ∷ digitsFrom (suc c) n
+
+unfoldable pub digitValues : List ℕ
+digitValues = digitsFrom 0x30 55
 
 -- ---- the answer of a scanner: what it says, and the place behind it
 abbrev pub resultOf : Escape → Outcome

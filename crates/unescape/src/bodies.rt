@@ -10,6 +10,9 @@ ghost use Rattle.unescape.specs.Steps.{endOf, errorOf, escapeAt, stepOf,
 use crate::escapes::Escape;
 use crate::escapes::ascii_check;
 use crate::escapes::scan_escape;
+use crate::escapes::scan_hex;
+use crate::escapes::scan_unicode;
+use crate::escapes::simple;
 use modes::errors;
 use modes::is_ascii_only;
 use modes::is_raw;
@@ -133,16 +136,27 @@ fn str_char(c: u32, end: usize, is_byte: bool) -> Escape
     }
 }
 
-// Behind a backslash.
+// Behind a backslash: as `scan_escape`, but for the newline. It tells the escapes apart itself, so that what stands there is decoded
+// once, and an escape of one character is compiled into the loop.
 fn slash(text: &[u8], at: usize, is_byte: bool) -> Step
     requires { ⌜ at ≤ length (now text) ⌝ }
     ensures { λ r. ⌜ Behind (λ from. slashed (length (now (text .entry))) «is_byte» from (left (now (text .entry)) at)) (now (text .entry)) at r ⌝ }
 {
-    let d = decode(text, at);
-    if d.code == 0x0A {
-        return skip_ascii_whitespace(text, at + d.wide);
+    if text.len() <= at {
+        return item(Escape::Error(errors::LONE_SLASH, at));
     }
-    item(scan_escape(text, at, is_byte))
+    let d = decode(text, at);
+    let next = at + d.wide;
+    if d.code == 0x0A {
+        return skip_ascii_whitespace(text, next);
+    }
+    if d.code == 0x78 {
+        return item(scan_hex(text, next));
+    }
+    if d.code == 0x75 {
+        return item(scan_unicode(text, next, is_byte));
+    }
+    item(simple(d.code, next))
 }
 
 // One turn over a body of Str, BitStr or ByteStr.

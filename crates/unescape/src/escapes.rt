@@ -1,10 +1,10 @@
 // Escapes: what stands behind a backslash.
 ghost use mathlib.Core.Path.{_≡_};
-ghost use Prim.Native.Nat.{_+_, _≤_, _<_};
+ghost use Prim.Native.Nat.{_≤_, _<_};
 ghost use lib.ListN.{length};
 ghost use Rattle.unicode.specs.Text.{Ate};
 ghost use Rattle.unescape.specs.Escapes.{toDigit, hexDigit, hexEscape, firstDigit, orUnderscore, counted, valued, addDigit, codePoint, closing, braced, unicodeEscape, simple, escape, asciiCheck};
-ghost use Rattle.unescape.specs.Steps.{escapeAt, valueOf, Scanned};
+ghost use Rattle.unescape.specs.Steps.{digitValues, escapeAt, valueOf, Scanned};
 use modes::errors;
 use unicode::utf8::decode;
 
@@ -84,27 +84,24 @@ const DIGITS: [u8; 55] = [
     15,
 ];
 
-fn digit_from_0(i: usize) -> u8
-    requires { ⌜ i < 55 ⌝ }
-    ensures { λ r. ⌜ r ≡ toDigit (i + 0x30) ⌝ }
-{
-    DIGITS[i]
-}
-
-fn to_digit(c: u32) -> u8
+// Over the table as it was lent, since to index the constant would store it anew for each digit.
+fn to_digit(digits: &[u8], c: u32) -> u8
+    requires { ⌜ now digits ≡ digitValues ⌝ }
     ensures { λ r. ⌜ r ≡ toDigit c ⌝ }
 {
     if c < 0x30 {
         return NO_DIGIT;
     }
-    if 0x66 < c {
-        return NO_DIGIT;
+    let i = (c - 0x30) as usize;
+    if i < digits.len() {
+        digits[i]
+    } else {
+        NO_DIGIT
     }
-    digit_from_0((c - 0x30) as usize)
 }
 
 // The escapes of one character.
-fn simple(c: u32, end: usize) -> Escape
+pub fn simple(c: u32, end: usize) -> Escape
     ensures { λ r. ⌜ r ≡ escapeAt (simple c) end ⌝ }
 {
     match c {
@@ -119,35 +116,43 @@ fn simple(c: u32, end: usize) -> Escape
     }
 }
 
-fn hex_digit(text: &[u8], at: usize) -> Escape
-    requires { ⌜ at ≤ length (now text) ⌝ }
+fn hex_digit(text: &[u8], at: usize, digits: &[u8]) -> Escape
+    requires { ⌜ (at ≤ length (now text)) × (now digits ≡ digitValues) ⌝ }
     ensures { λ r. ⌜ (Scanned hexDigit (now (text .entry)) at r) × (valueOf r < 16) ⌝ }
 {
     if text.len() <= at {
         return Escape::Error(errors::TOO_SHORT_HEX_ESCAPE, at);
     }
     let d = decode(text, at);
-    let digit = to_digit(d.code);
+    let digit = to_digit(digits, d.code);
     if NO_DIGIT <= digit {
         return Escape::Error(errors::INVALID_CHAR_IN_HEX_ESCAPE, at + d.wide);
     }
     Escape::Value(digit as u32, at + d.wide)
 }
 
-// Behind `\x`.
-fn scan_hex(text: &[u8], at: usize) -> Escape
-    requires { ⌜ at ≤ length (now text) ⌝ }
+// Two digits.
+fn hex_pair(text: &[u8], at: usize, digits: &[u8]) -> Escape
+    requires { ⌜ (at ≤ length (now text)) × (now digits ≡ digitValues) ⌝ }
     ensures { λ r. ⌜ Scanned hexEscape (now (text .entry)) at r ⌝ }
 {
-    let first = hex_digit(text, at);
+    let first = hex_digit(text, at, digits);
     let Escape::Value(hi, next) = first else {
         return first;
     };
-    let second = hex_digit(text, next);
+    let second = hex_digit(text, next, digits);
     let Escape::Value(lo, end) = second else {
         return second;
     };
     Escape::Value(hi * 16 + lo, end)
+}
+
+// Behind `\x`. Here and in `scan_unicode` the table is lent, once for an escape.
+pub fn scan_hex(text: &[u8], at: usize) -> Escape
+    requires { ⌜ at ≤ length (now text) ⌝ }
+    ensures { λ r. ⌜ Scanned hexEscape (now (text .entry)) at r ⌝ }
+{
+    hex_pair(text, at, &DIGITS)
 }
 
 // Behind a backslash.
@@ -170,8 +175,8 @@ pub fn scan_escape(text: &[u8], at: usize, is_byte: bool) -> Escape
 }
 
 // The first digit of `\u{..}`.
-fn first_digit(text: &[u8], at: usize) -> Escape
-    requires { ⌜ at ≤ length (now text) ⌝ }
+fn first_digit(text: &[u8], at: usize, digits: &[u8]) -> Escape
+    requires { ⌜ (at ≤ length (now text)) × (now digits ≡ digitValues) ⌝ }
     ensures { λ r. ⌜ (Scanned firstDigit (now (text .entry)) at r) × (valueOf r < 16) ⌝ }
 {
     if text.len() <= at {
@@ -185,20 +190,22 @@ fn first_digit(text: &[u8], at: usize) -> Escape
     if d.code == 0x7D {
         return Escape::Error(errors::EMPTY_UNICODE_ESCAPE, next);
     }
-    let digit = to_digit(d.code);
+    let digit = to_digit(digits, d.code);
     if NO_DIGIT <= digit {
         return Escape::Error(errors::INVALID_CHAR_IN_UNICODE_ESCAPE, next);
     }
     Escape::Value(digit as u32, next)
 }
 
-fn is_digit_or_underscore(c: u32) -> bool
+// By the character and what it is worth.
+fn is_digit_or_underscore(c: u32, digit: u8) -> bool
+    requires { ⌜ digit ≡ toDigit c ⌝ }
     ensures { λ r. ⌜ r ≡ orUnderscore c ⌝ }
 {
     if c == 0x5F {
         return true;
     }
-    to_digit(c) < NO_DIGIT
+    digit < NO_DIGIT
 }
 
 fn count_digit(count: usize, c: u32) -> usize
@@ -212,8 +219,8 @@ fn count_digit(count: usize, c: u32) -> usize
 }
 
 // From the seventh digit on the value is no longer asked for, and so it stays below 2^24.
-fn add_digit(count: usize, value: u32, c: u32) -> u32
-    requires { ⌜ (count < 6 → value < 1048576) ⌝ }
+fn add_digit(count: usize, value: u32, c: u32, digit: u8) -> u32
+    requires { ⌜ (digit ≡ toDigit c) × (count < 6 → value < 1048576) ⌝ }
     ensures { λ r. ⌜ r ≡ valued count value c ⌝ }
 {
     if c == 0x5F {
@@ -222,25 +229,27 @@ fn add_digit(count: usize, value: u32, c: u32) -> u32
     if 6 <= count {
         return value;
     }
-    value * 16 + to_digit(c) as u32
+    value * 16 + digit as u32
 }
 
-// Behind a first digit.
-fn more_digits(text: &[u8], from: usize, first: u32) -> Digits
-    requires { ⌜ (from ≤ length (now text)) × (first < 16) ⌝ }
+// Behind a first digit, byte by byte: only ASCII is a digit.
+fn more_digits(text: &[u8], from: usize, first: u32, digits: &[u8]) -> Digits
+    requires { ⌜ (from ≤ length (now text)) × (first < 16) × (now digits ≡ digitValues) ⌝ }
     ensures { λ r. ⌜ Ate orUnderscore addDigit (now (text .entry)) from (1, first) (r .at) (r .count, r .value) ⌝ }
 {
     let mut at = from;
     let mut count: usize = 1;
     let mut value = first;
     while at < text.len() {
-        let d = decode(text, at);
-        if !is_digit_or_underscore(d.code) {
+        let b = text[at];
+        let c = b as u32;
+        let digit = to_digit(digits, c);
+        if !is_digit_or_underscore(c, digit) {
             return Digits { count, value, at };
         }
-        value = add_digit(count, value, d.code);
-        count = count_digit(count, d.code);
-        at = at + d.wide;
+        value = add_digit(count, value, c, digit);
+        count = count_digit(count, c);
+        at = at + 1;
     }
     Digits { count, value, at }
 }
@@ -284,20 +293,20 @@ fn closing_brace(text: &[u8], at: usize, count: usize, value: u32, is_byte: bool
 }
 
 // Behind `\u{`.
-fn scan_braced(text: &[u8], at: usize, is_byte: bool) -> Escape
-    requires { ⌜ at ≤ length (now text) ⌝ }
+fn scan_braced(text: &[u8], at: usize, is_byte: bool, digits: &[u8]) -> Escape
+    requires { ⌜ (at ≤ length (now text)) × (now digits ≡ digitValues) ⌝ }
     ensures { λ r. ⌜ Scanned (braced «is_byte») (now (text .entry)) at r ⌝ }
 {
-    let first = first_digit(text, at);
+    let first = first_digit(text, at, digits);
     let Escape::Value(digit, next) = first else {
         return first;
     };
-    let digits = more_digits(text, next, digit);
-    closing_brace(text, digits.at, digits.count, digits.value, is_byte)
+    let more = more_digits(text, next, digit, digits);
+    closing_brace(text, more.at, more.count, more.value, is_byte)
 }
 
 // Behind `\u`.
-fn scan_unicode(text: &[u8], at: usize, is_byte: bool) -> Escape
+pub fn scan_unicode(text: &[u8], at: usize, is_byte: bool) -> Escape
     requires { ⌜ at ≤ length (now text) ⌝ }
     ensures { λ r. ⌜ Scanned (unicodeEscape «is_byte») (now (text .entry)) at r ⌝ }
 {
@@ -306,7 +315,7 @@ fn scan_unicode(text: &[u8], at: usize, is_byte: bool) -> Escape
     if d.code != 0x7B {
         return Escape::Error(errors::NO_BRACE_IN_UNICODE_ESCAPE, next);
     }
-    scan_braced(text, next, is_byte)
+    scan_braced(text, next, is_byte, &DIGITS)
 }
 
 // A character that stands for itself.

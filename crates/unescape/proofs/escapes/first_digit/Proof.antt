@@ -26,8 +26,8 @@ to-digit-requires c κs = search needs
 returns-4 : tie.Need-returns-4
 returns-4 c = search (needs, scanning)
 
-cast-t8 : tie.Need-cast-t8
-cast-t8 c = search needs
+cast-t9 : tie.Need-cast-t9
+cast-t9 c = search needs
 
 returns-5 : tie.Need-returns-5
 returns-5 c = search (needs, scanning)
@@ -43,5 +43,5 @@ first-digit-spec =
     returns-3
     to-digit-requires
     returns-4
-    cast-t8
+    cast-t9
     returns-5)
