@@ -4,68 +4,90 @@ use mathlib.Core.Path.{_≡_, refl, ap, sym, _∙_}
 use mathlib.Core.Bool.{Bool, true, false, cond, _&&_, _||_}
 use mathlib.Core.List.{List, [], _∷_}
 use Prim.Native.Nat.{ℕ, zero, suc, _+_, _-_, _*_, _/_, _≤_, _<_}
-use native.Mathlib.Decide.{decLt}
+use native.Mathlib.Decide.{decLt, ℕ-discrete}
 use native.Mathlib.Omega.{arith}
 use lib.Dec.{leb, ltb}
 use lib.ListN.{length, getD}
-use borrow.Author.Tests.{lt-ltb, le-ltb, le-leb, leb-true, ltb-true}
-use Rattle.lists.proofs.Bools.{by-test, and-false, or-true}
-use Rattle.unicode.specs.Ranges.{Range, _to_, inTable, flat}
-use Rattle.unicode.specs.Search.{middle, halving, among, searched}
+use borrow.Author.Tests.{lt-ltb, le-ltb, le-leb, lt-leb, leb-true, leb-false, ltb-true, eq-eqb, ne-eqb}
+use Rattle.lists.proofs.Bools.{by-test, on-cond, and-false, or-true}
+use Rattle.unicode.specs.Ranges.{Range, _to_, inRange, inTable, flat}
+use Rattle.unicode.specs.Search.{later, narrowed, among, found, searched}
 use Rattle.unicode.specs.Order.{Sorted}
 
 -- ---- the steps
-module _ (n : ℕ) (t : List ℕ) (c lo hi : ℕ) where
-  step-none : hi ≤ lo → halving (suc n) t c lo hi ≡ false
-  unfolding halving
-  step-none h = rw (le-ltb lo hi h, halving)
+module _ (t : List ℕ) (c : ℕ) where
+  pub later-up : (base half : ℕ) → getD t (2 * (base + half)) 0 ≤ c → base + half ≡ later t c base half
+  later-up base half h = rw (le-leb (getD t (2 * (base + half)) 0) c h)
 
-  step-below : lo < hi → c < getD t (2 * middle lo hi) 0 → halving (suc n) t c lo hi ≡ halving n t c lo (middle lo hi)
-  unfolding halving
-  step-below h p = rw (lt-ltb lo hi h, lt-ltb c (getD t (2 * middle lo hi) 0) p, halving)
+  pub later-stay : (base half : ℕ) → c < getD t (2 * (base + half)) 0 → base ≡ later t c base half
+  later-stay base half h = rw (lt-leb (getD t (2 * (base + half)) 0) c h)
 
-  step-above : lo < hi → getD t (2 * middle lo hi) 0 ≤ c → getD t (2 * middle lo hi + 1) 0 < c → halving (suc n) t c lo hi ≡ halving n t c (middle lo hi + 1) hi
-  unfolding halving
-  step-above h p q =
-      rw (lt-ltb lo hi h, le-ltb c (getD t (2 * middle lo hi) 0) p, lt-ltb (getD t (2 * middle lo hi + 1) 0) c q, halving)
+  later-most : (base half : ℕ) → later t c base half ≤ base + half
+  later-most base half = on-cond (λ (n : ℕ). n ≤ base + half) (leb (getD t (2 * (base + half)) 0) c) (omega arith) (omega arith)
 
-  step-here : lo < hi → getD t (2 * middle lo hi) 0 ≤ c → c ≤ getD t (2 * middle lo hi + 1) 0 → halving (suc n) t c lo hi ≡ true
-  unfolding halving
-  step-here h p q =
-      rw (lt-ltb lo hi h, le-ltb c (getD t (2 * middle lo hi) 0) p, le-ltb (getD t (2 * middle lo hi + 1) 0) c q, halving)
+  -- of one range none is left out
+  one : (n base : ℕ) → narrowed n t c base 1 ≡ base
+  unfolding narrowed
+  one zero base = refl
+  one (suc n) base =
+      let z : base + 0 ≡ base = omega arith in
+      let e : later t c base 0 ≡ base = rw z (on-cond (λ (m : ℕ). m ≡ base) (leb (getD t (2 * base) 0) c) refl refl) in
+      rw e (one n base)
 
--- the four ways of a step
-module _ {P : Type 0} (t : List ℕ) (c lo hi : ℕ) where
-  four-ways : (hi ≤ lo → P) → (lo < hi → c < getD t (2 * middle lo hi) 0 → P)
-      → (lo < hi → getD t (2 * middle lo hi) 0 ≤ c → getD t (2 * middle lo hi + 1) 0 < c → P)
-      → (lo < hi → getD t (2 * middle lo hi) 0 ≤ c → c ≤ getD t (2 * middle lo hi + 1) 0 → P) → P
-  four-ways f g h k =
-      elim (decLt lo hi) [
-        | yes p ↦ elim (decLt c (getD t (2 * middle lo hi) 0)) [
-          | yes q ↦ g p q
-          | no q ↦ elim (decLt (getD t (2 * middle lo hi + 1) 0) c) [ yes r ↦ h p (omega arith) r | no r ↦ k p (omega arith) (omega arith) ]
-        ]
-        | no p ↦ f (omega arith)
+  -- steps to spare change nothing
+  enough : (n m base size : ℕ) → 1 ≤ size → size ≤ n → size ≤ m → narrowed n t c base size ≡ narrowed m t c base size
+  unfolding narrowed
+  enough zero m base size s h k = absurd (omega arith)
+  enough (suc n) zero base size s h k = absurd (omega arith)
+  enough (suc n) (suc m) base size s h k =
+      elim (decLt 1 size) [
+        | yes p ↦ enough n m (later t c base (size / 2)) (size - size / 2) (omega arith) (omega arith) (omega arith)
+        | no p ↦ let e : size ≡ 1 = omega arith in rw e (one (suc n) base ∙ sym (one (suc m) base))
       ]
 
--- steps to spare change nothing
-enough : (n m : ℕ) (t : List ℕ) (c lo hi : ℕ) → hi - lo ≤ n → hi - lo ≤ m → halving n t c lo hi ≡ halving m t c lo hi
-unfolding halving
-enough zero zero t c lo hi h k = refl
-enough zero (suc m) t c lo hi h k = sym (step-none m t c lo hi (omega arith))
-enough (suc n) zero t c lo hi h k = step-none n t c lo hi (omega arith)
-enough (suc n) (suc m) t c lo hi h k =
-    four-ways t c lo hi
-    (λ p. step-none n t c lo hi p ∙ sym (step-none m t c lo hi p))
-    (λ p q. step-below n t c lo hi p q ∙ enough n m t c lo (middle lo hi) (omega arith) (omega arith) ∙ sym (step-below m t c lo hi p q))
-    (λ p q r. step-above n t c lo hi p q r ∙ enough n m t c (middle lo hi + 1) hi (omega arith) (omega arith) ∙ sym (step-above m t c lo hi p q r))
-    (λ p q r. step-here n t c lo hi p q r ∙ sym (step-here m t c lo hi p q r))
+  step : (base size : ℕ) → 1 ≤ size → narrowed (size - size / 2) t c (later t c base (size / 2)) (size - size / 2) ≡ narrowed size t c base size
+  unfolding narrowed
+  step base size s =
+      enough (size - size / 2) size (later t c base (size / 2)) (size - size / 2) (omega arith) (omega arith) (omega arith)
+      ∙ enough (suc size) size base size s (omega arith) (omega arith)
 
--- ---- a loop that searches: to go on from lo and hi comes to the same
-pub record Searching (t : List ℕ) (c lo hi : ℕ) : Type 0 where
-  pub order : lo ≤ hi
-  pub within : 2 * hi ≤ length t
-  pub same : halving (hi - lo) t c lo hi ≡ searched t c
+  -- it stays among its ranges
+  stays : (n base size : ℕ) → 1 ≤ size → narrowed n t c base size < base + size
+  unfolding narrowed
+  stays zero base size s = omega arith
+  stays (suc n) base size s =
+      omega (arith, stays n (later t c base (size / 2)) (size - size / 2) (omega arith), later-most base (size / 2))
+
+-- ---- a search that goes on: to go on from here comes to the same
+pub record Searching (t : List ℕ) (c base₀ size₀ base size : ℕ) : Type 0 where
+  pub some : 1 ≤ size
+  pub within : 2 * (base + size) ≤ length t
+  pub same : narrowed size t c base size ≡ narrowed size₀ t c base₀ size₀
+
+pub searching-none : (t : List ℕ) (c base size : ℕ) → 1 ≤ size → 2 * (base + size) ≤ length t → Searching t c base size base size
+searching-none t c base size s l = record { some = s; within = l; same = refl }
+
+module _ {t : List ℕ} {c base₀ size₀ base size : ℕ} (s : Searching t c base₀ size₀ base size) where
+  pub searching-on : {base′ size′ : ℕ} → (base′ ≡ later t c base (size / 2)) × (size′ ≡ size - size / 2) → Searching t c base₀ size₀ base′ size′
+  searching-on e =
+      rw (e .0, e .1)
+      (record {
+        some = omega (arith, s .some);
+        within = omega (arith, later-most t c base (size / 2), s .within);
+        same = step t c base size (s .some) ∙ s .same;
+      })
+
+  pub searching-fits : (1 ≤ size) × (2 * (base + size) ≤ length t)
+  searching-fits = (s .some, s .within)
+
+  pub searching-within : {k : ℕ} → k ≡ narrowed size t c base size → 2 * k + 1 < length t
+  searching-within e = omega (arith, stays t c size base size (s .some), s .within)
+
+  pub searching-end : size ≤ 1 → base ≡ narrowed size₀ t c base₀ size₀
+  searching-end h = let e : size ≡ 1 = omega (arith, s .some) in sym (one t c size base) ∙ (rw (← e)) ∙ s .same
+
+pub half-most : (k : ℕ) {n m : ℕ} → n ≤ 2 * k → m ≡ n - n / 2 → m ≤ k
+half-most k h e = omega arith
 
 -- how many ranges it begins with
 module _ (t : List ℕ) (c : ℕ) {n : ℕ} (e : n ≡ length t / 2) where
@@ -84,60 +106,33 @@ among-most t c =
     (λ h. by-test (ltb c (getD t 64 0)) (λ k. rw (h, k) (omega (arith, ltb-true 32 (length t / 2) h))) (λ k. rw (h, k) (omega arith)))
     (λ h. rw h (omega arith))
 
-pub searching-none : (t : List ℕ) (c : ℕ) {n : ℕ} → n ≡ among t c → Searching t c 0 (0 + n)
-unfolding searched
-searching-none t c {n} e =
-    let z : 0 + n ≡ among t c = omega arith in
-    let f : among t c - 0 ≡ among t c = omega arith in
-    rw z (record { order = omega arith; within = among-most t c; same = rw f })
+among-zero : (t : List ℕ) (c : ℕ) → among t c ≡ 0 → length t ≤ 1
+among-zero t c =
+    by-test (ltb 32 (length t / 2))
+    (λ h. by-test (ltb c (getD t 64 0)) (λ k. rw (h, k) (λ z. omega arith)) (λ k. rw (h, k) (λ z. omega arith)))
+    (λ h. rw h (λ z. omega arith))
 
-spare : (t : List ℕ) (c lo hi : ℕ) → lo < hi → halving (suc (hi - lo)) t c lo hi ≡ halving (hi - lo) t c lo hi
-spare t c lo hi h = enough (suc (hi - lo)) (hi - lo) t c lo hi (omega arith) (omega arith)
+-- ---- the answer
+module _ (t : List ℕ) (c : ℕ) {n : ℕ} (e : n ≡ among t c) where
+  pub search-none : n ≡ 0 → false ≡ searched t c
+  unfolding searched
+  search-none z = rw (eq-eqb (among t c) 0 (sym e ∙ z))
 
-module _ {t : List ℕ} {c lo hi : ℕ} (s : Searching t c lo hi) where
-  go-below : lo < hi → c < getD t (2 * middle lo hi) 0 → Searching t c lo (middle lo hi)
-  go-below h p =
-      record {
-        order = omega arith;
-        within = omega (arith, s .within);
-        same = enough (middle lo hi - lo) (hi - lo) t c lo (middle lo hi) (omega arith) (omega arith)
-            ∙ sym (step-below (hi - lo) t c lo hi h p) ∙ spare t c lo hi h ∙ s .same;
-      }
+  pub search-starts : (n ≡ 0 → ⊥) → Searching t c 0 n 0 n
+  search-starts h = searching-none t c 0 n (omega arith) (omega (arith, among-most t c))
 
-  go-above : lo < hi → getD t (2 * middle lo hi) 0 ≤ c → getD t (2 * middle lo hi + 1) 0 < c → Searching t c (middle lo hi + 1) hi
-  go-above h p q =
-      record {
-        order = omega arith;
-        within = s .within;
-        same = enough (hi - (middle lo hi + 1)) (hi - lo) t c (middle lo hi + 1) hi (omega arith) (omega arith)
-            ∙ sym (step-above (hi - lo) t c lo hi h p q) ∙ spare t c lo hi h ∙ s .same;
-      }
+  module _ {k : ℕ} (h : n ≡ 0 → ⊥) (f : k ≡ narrowed n t c 0 n) where
+    searched-by : searched t c ≡ inRange c (getD t (2 * k) 0 to getD t (2 * k + 1) 0)
+    unfolding searched
+    searched-by =
+        let g : found t c ≡ k = rw (← e) (sym f) in
+        rw (ne-eqb (among t c) 0 (λ z. h (e ∙ z)), g)
 
-  go-here : lo < hi → getD t (2 * middle lo hi) 0 ≤ c → c ≤ getD t (2 * middle lo hi + 1) 0 → true ≡ searched t c
-  go-here h p q = sym (step-here (hi - lo) t c lo hi h p q) ∙ spare t c lo hi h ∙ s .same
+    pub search-below : c < getD t (2 * k) 0 → false ≡ searched t c
+    search-below l = sym (searched-by ∙ rw (lt-leb (getD t (2 * k) 0) c l))
 
-  go-end : hi ≤ lo → false ≡ searched t c
-  go-end h =
-      sym (step-none (hi - lo) t c lo hi h) ∙ enough (suc (hi - lo)) (hi - lo) t c lo hi (omega arith) (omega arith) ∙ s .same
-
--- with the number of ranges for their end, as `search` takes them
-middle-is : (lo n : ℕ) → middle lo (lo + n) ≡ lo + n / 2
-middle-is lo n = omega arith
-
-module _ {t : List ℕ} {c lo : ℕ} (n : ℕ) (s : Searching t c lo (lo + n)) where
-  pub searching-below : 0 < n → c < getD t (2 * (lo + n / 2)) 0 → Searching t c lo (lo + n / 2)
-  searching-below h p = rw (← middle-is lo n) (go-below s (omega arith) (rw (middle-is lo n) p))
-
-  pub searching-above : {m : ℕ} → 0 < n → getD t (2 * (lo + n / 2)) 0 ≤ c → getD t (2 * (lo + n / 2) + 1) 0 < c → m ≡ n - n / 2 - 1 → Searching t c (lo + n / 2 + 1) (lo + n / 2 + 1 + m)
-  searching-above {m} h p q e =
-      let z : lo + n / 2 + 1 + m ≡ lo + n = omega arith in
-      rw (z, ← middle-is lo n) (go-above s (omega arith) (rw (middle-is lo n) p) (rw (middle-is lo n) q))
-
-  pub searching-here : 0 < n → getD t (2 * (lo + n / 2)) 0 ≤ c → c ≤ getD t (2 * (lo + n / 2) + 1) 0 → true ≡ searched t c
-  searching-here h p q = go-here s (omega arith) (rw (middle-is lo n) p) (rw (middle-is lo n) q)
-
-  pub searching-end : n ≤ 0 → false ≡ searched t c
-  searching-end h = go-end s (omega arith)
+    pub search-above : {r : Bool} → getD t (2 * k) 0 ≤ c → r ≡ leb c (getD t (2 * k + 1) 0) → r ≡ searched t c
+    search-above l q = q ∙ sym (searched-by ∙ rw (le-leb (getD t (2 * k) 0) c l))
 
 -- ---- membership by the list of a table's ends
 unfoldable inEnds : ℕ → List ℕ → Bool
@@ -176,52 +171,76 @@ miss (x ∷ []) c h = refl
 miss (x ∷ y ∷ t) c h =
     simp (outside x y c (leb x c) (leb c y) refl refl (h 0 (omega arith)), miss t c (λ k l a b. h (suc k) (omega arith) (rw even a) (rw odd b)))
 
--- the ranges before lo end below c, and those from hi on begin above it
-record Bracket (t : List ℕ) (c lo hi : ℕ) : Type 0 where
-  hi-le : 2 * hi ≤ length t
-  below : (k : ℕ) → k < lo → getD t (2 * k + 1) 0 < c
-  above : (k : ℕ) → hi ≤ k → 2 * k + 1 < length t → c < getD t (2 * k) 0
+-- the first of the ranges from base on, unless it is the table's first, does not begin above c, and those behind them do
+record Bracket (t : List ℕ) (c base size : ℕ) : Type 0 where
+  some : 1 ≤ size
+  within : 2 * (base + size) ≤ length t
+  low : ((base ≡ 0 → ⊥) → getD t (2 * base) 0 ≤ c)
+  above : (k : ℕ) → base + size ≤ k → 2 * k + 1 < length t → c < getD t (2 * k) 0
 
 module _ (t : List ℕ) (c : ℕ) (s : Sorted t) where
-  down : (lo hi : ℕ) → Bracket t c lo hi → lo < hi → c < getD t (2 * middle lo hi) 0 → Bracket t c lo (middle lo hi)
+  halved : (base size : ℕ) → Bracket t c base size → Bracket t c (later t c base (size / 2)) (size - size / 2)
   unfolding Sorted
-  down lo hi b p h =
-      record {
-        hi-le = omega (arith, b .hi-le);
-        below = b .below;
-        above = λ k g l. omega (arith, s (2 * middle lo hi) (2 * k) (omega arith) (omega arith));
-      }
+  halved base size b =
+      let mid = base + size / 2 in
+      by-test (leb (getD t (2 * mid) 0) c)
+      (λ h. rw h
+      (record {
+        some = omega (arith, b .some);
+        within = omega (arith, b .within);
+        low = λ z. leb-true (getD t (2 * mid) 0) c h;
+        above = λ k g l. b .above k (omega arith) l;
+      }))
+      (λ h. rw h
+      (record {
+        some = omega (arith, b .some);
+        within = omega (arith, b .within);
+        low = b .low;
+        above = λ k g l. omega (arith, leb-false (getD t (2 * mid) 0) c h, s (2 * mid) (2 * k) (omega arith) (omega arith));
+      }))
 
-  up : (lo hi : ℕ) → Bracket t c lo hi → lo < hi → getD t (2 * middle lo hi + 1) 0 < c → Bracket t c (middle lo hi + 1) hi
+  bracketed : (n base size : ℕ) → size ≤ n → Bracket t c base size → Bracket t c (narrowed n t c base size) 1
+  unfolding narrowed
+  bracketed zero base size h b = absurd (omega (arith, b .some))
+  bracketed (suc n) base size h b =
+      elim (decLt 1 size) [
+        | yes p ↦ bracketed n (later t c base (size / 2)) (size - size / 2) (omega arith) (halved base size b)
+        | no p ↦ let e : size ≡ 1 = omega (arith, b .some) in rw (e, one t c (suc n) base) (rw e at b)
+      ]
+
+  -- where a range holds c, so does the one that is left
+  covers : (k j : ℕ) → Bracket t c k 1 → 2 * j + 1 < length t → getD t (2 * j) 0 ≤ c → c ≤ getD t (2 * j + 1) 0 → (getD t (2 * k) 0 ≤ c) × (c ≤ getD t (2 * k + 1) 0)
   unfolding Sorted
-  up lo hi b p h =
-      record {
-        hi-le = b .hi-le;
-        below = λ k g. omega (arith, s (2 * k + 1) (2 * middle lo hi + 1) (omega arith) (omega (arith, b .hi-le)));
-        above = b .above;
-      }
+  covers k j b l x y =
+      elim (decLt k j) [
+        | yes p ↦ absurd (omega (arith, b .above j (omega arith) l))
+        | no p ↦ elim (ℕ-discrete j k) [
+          | yes e ↦ (rw (← e) x, rw (← e) y)
+          | no n ↦
+              let low = b .low (λ z. omega arith) in
+              (low, omega (arith, s (2 * j + 1) (2 * k) (omega arith) (omega (arith, b .within)), s (2 * k) (2 * k + 1) (omega arith) (omega (arith, b .within))))
+        ]
+      ]
 
-  met : (lo hi : ℕ) → hi ≤ lo → Bracket t c lo hi → inEnds c t ≡ false
-  met lo hi h b =
-      miss t c (λ k l a e. elim (decLt k lo) [ yes p ↦ omega (arith, b .below k p) | no n ↦ omega (arith, b .above k (omega arith) l) ])
-
-  bracketed : (n lo hi : ℕ) → hi - lo ≤ n → Bracket t c lo hi → halving n t c lo hi ≡ inEnds c t
-  unfolding halving
-  bracketed zero lo hi h b = sym (met lo hi (omega arith) b)
-  bracketed (suc n) lo hi h b =
-      four-ways t c lo hi
-      (λ p. step-none n t c lo hi p ∙ sym (met lo hi p b))
-      (λ p q. step-below n t c lo hi p q ∙ bracketed n lo (middle lo hi) (omega arith) (down lo hi b p q))
-      (λ p q r. step-above n t c lo hi p q r ∙ bracketed n (middle lo hi + 1) hi (omega arith) (up lo hi b p r))
-      (λ p q r. step-here n t c lo hi p q r ∙ sym (hit t c (middle lo hi) (omega (arith, b .hi-le)) q r))
+  -- so it holds c, or none does
+  left-one : (k : ℕ) → Bracket t c k 1 → inRange c (getD t (2 * k) 0 to getD t (2 * k + 1) 0) ≡ inEnds c t
+  left-one k b =
+      elim (decLt c (getD t (2 * k) 0)) [
+        | yes p ↦ rw (lt-leb (getD t (2 * k) 0) c p) (sym (miss t c (λ j l x y. omega (arith, covers k j b l x y .0))))
+        | no p ↦ elim (decLt (getD t (2 * k + 1) 0) c) [
+          | yes q ↦ rw (le-leb (getD t (2 * k) 0) c (omega arith), lt-leb c (getD t (2 * k + 1) 0) q) (sym (miss t c (λ j l x y. omega (arith, covers k j b l x y .1))))
+          | no q ↦ rw (le-leb (getD t (2 * k) 0) c (omega arith), le-leb c (getD t (2 * k + 1) 0) (omega arith)) (sym (hit t c k (omega (arith, b .within)) (omega arith) (omega arith)))
+        ]
+      ]
 
 -- the ranges that are left out at the outset begin above c
-outset : (t : List ℕ) (c : ℕ) → Sorted t → Bracket t c 0 (among t c)
+outset : (t : List ℕ) (c : ℕ) → Sorted t → (among t c ≡ 0 → ⊥) → Bracket t c 0 (among t c)
 unfolding Sorted
-outset t c s =
+outset t c s n =
     record {
-      hi-le = among-most t c;
-      below = λ k h. absurd (omega arith);
+      some = omega arith;
+      within = omega (arith, among-most t c);
+      low = λ z. absurd (z refl);
       above = by-test (ltb 32 (length t / 2))
           (λ h. by-test (ltb c (getD t 64 0))
           (λ i. rw (h, i) (λ k g l. omega (arith, ltb-true c (getD t 64 0) i, s 64 (2 * k) (omega arith) (omega arith))))
@@ -234,4 +253,7 @@ pub searched-is : (t : List Range) (c : ℕ) → Sorted (flat t) → searched (f
 unfolding searched
 searched-is t c s =
     let l = flat t in
-    bracketed l c s (among l c) 0 (among l c) (omega arith) (outset l c s) ∙ by-ends c t
+    elim (ℕ-discrete (among l c) 0) [
+      | yes z ↦ rw (eq-eqb (among l c) 0 z) (sym (miss l c (λ k g x y. omega (arith, among-zero l c z))) ∙ by-ends c t)
+      | no z ↦ rw (ne-eqb (among l c) 0 z) (left-one l c s (found l c) (bracketed l c s (among l c) 0 (among l c) (omega arith) (outset l c s z)) ∙ by-ends c t)
+    ]
