@@ -3,17 +3,16 @@
 use Prim.Native.Nat.{ℕ, suc, _+_, _-_, _*_, _/_, _%_, _≤_, _<_, min}
 use native.Mathlib.Decide.{ℕ-discrete}
 use native.Mathlib.Omega.{arith}
-use native.Mathlib.Nat.{add-zero}
 use native.Mathlib.Numerals.{add-one, add-two, add-three}
 use mathlib.Core.Path.{_≡_, refl, ap, sym, _∙_}
 use mathlib.Core.Bool.{Bool, true, false}
 use mathlib.Core.List.{List, [], _∷_, _++_}
-use lib.ListN.{length, take, drop, set, getD, length-set, length-append, length-take, length-drop, drop-of-length-le}
-use lib.Seq.{sets, drop-cons}
+use lib.ListN.{length, take, drop, set, getD, length-set, length-append, length-take, length-drop, drop-of-length-le, take-append-drop}
+use lib.Seq.{sets, drop-cons, drop-drop, take-all, take-add}
 use borrow.Author.Tests.{eq-eqb, ne-eqb}
 use Rattle.lists.proofs.Bools.{on-cond}
 use Rattle.lists.specs.Put.{Put, PutIf}
-use Rattle.lists.proofs.Put.{sets-append, put-then}
+use Rattle.lists.proofs.Put.{sets-append, put-one, put-then, put-both}
 use Rattle.renewal.specs.Key.{noBody, bodyLength, digits, word, bodyOf, texts, held, encode}
 use Rattle.renewal.specs.Steps.{member, entry, sizeBy, BodyFits, Writable, Ready}
 use Rattle.renewal.proofs.Words.{digits-length}
@@ -28,30 +27,59 @@ unfolding digits
 put-word {out} {out′} {k} n u v =
     record { same = rw (u, add-one, add-two, add-three); next = v; long = ap length u ∙ simp length-set }
 
--- ---- a part stored byte by byte: to store what is left of it from here on comes to the same
-pub record Copying (out₀ : List ℕ) (k : ℕ) (part out : List ℕ) (i : ℕ) : Type 0 where
-  pub within : i ≤ length part
-  pub room : k + length part ≤ length out₀
-  pub long : length out ≡ length out₀
-  pub same : sets out (k + i) (drop i part) ≡ sets out₀ k part
+-- ---- a part of one to sixteen bytes
+four : (part : List ℕ) (i : ℕ) → i + 4 ≤ length part → take 4 (drop i part) ≡ getD part i 0 ∷ getD part (i + 1) 0 ∷ getD part (i + 2) 0 ∷ getD part (i + 3) 0 ∷ []
+four part i h =
+    rw (drop-cons part i 0 (omega arith), drop-cons part (suc i) 0 (omega arith), drop-cons part (suc (suc i)) 0 (omega arith), drop-cons part (suc (suc (suc i))) 0 (omega arith), add-one, add-two, add-three)
 
-pub copying-none : (out : List ℕ) (k : ℕ) (part : List ℕ) → k + length part ≤ length out → Copying out k part out 0
-copying-none out k part h = record { within = omega arith; room = h; long = refl; same = rw (add-zero k) }
+pub put-four : {out out′ : List ℕ} (part : List ℕ) (i : ℕ) {k r : ℕ} → i + 4 ≤ length part →
+    out′ ≡ set (set (set (set out k (getD part i 0)) (k + 1) (getD part (i + 1) 0)) (k + 2) (getD part (i + 2) 0)) (k + 3) (getD part (i + 3) 0) → r ≡ k + 4 → Put out k (take 4 (drop i part)) out′ r
+put-four {out} {out′} part i {k} {r} h u v =
+    rw (four part i h) (record { same = u ∙ rw (add-one k, add-two k, add-three k); next = v; long = ap length u ∙ simp length-set })
 
-pub copying-more : {out₀ part out out′ : List ℕ} {k i i′ : ℕ} → Copying out₀ k part out i → i < length part → out′ ≡ set out (k + i) (getD part i 0) → i′ ≡ i + 1 → Copying out₀ k part out′ i′
-copying-more {out₀} {part} {out} {out′} {k} {i} c h u v =
-    let e : k + (i + 1) ≡ suc (k + i) = omega arith in
-    record {
-      within = omega arith;
-      room = c .room;
-      long = ap length u ∙ length-set out (k + i) (getD part i 0) ∙ c .long;
-      same = rw (v, e, u, add-one i) (ap (λ (l : List ℕ). sets out (k + i) l) (sym (drop-cons part i 0 h)) ∙ c .same);
-    }
+-- and four more behind them
+pub four-then : {out out′ : List ℕ} (part : List ℕ) (i : ℕ) {k r : ℕ} → Put out k (take 4 (drop i part)) out′ r → i + 4 ≤ length part → k + 8 ≤ length out → r + 4 ≤ length out′
+four-then part i p h g = omega (arith, p .next, p .long, length-take 4 (drop i part), length-drop i part)
 
-pub copying-end : {out₀ part out : List ℕ} {k i r : ℕ} → Copying out₀ k part out i → length part ≤ i → r ≡ k + i → Put out₀ k part out r
-copying-end {out₀} {part} {out} {k} {i} c h u =
-    let e : sets out (k + i) (drop i part) ≡ out = (rw (drop-of-length-le part {i = i} h)) in
-    record { same = sym e ∙ c .same; next = omega (arith, c .within); long = c .long }
+-- the bytes of a list of one, two or three
+module _ (part : List ℕ) where
+  rest : (i : ℕ) → i < length part → drop i part ≡ getD part i 0 ∷ drop (suc i) part
+  rest i h = drop-cons part i 0 h
+
+  none : (i : ℕ) → length part ≡ i → drop i part ≡ []
+  none i e = drop-of-length-le part {i = i} (omega arith)
+
+  pub put-few-1 : {out out′ : List ℕ} {k r : ℕ} → length part ≡ 1 → out′ ≡ set out k (getD part 0 0) → r ≡ k + 1 → Put out k part out′ r
+  put-few-1 e u v =
+      let l : part ≡ getD part 0 0 ∷ [] = rest 0 (omega arith) ∙ (rw (none 1 e)) in
+      rw l (put-one u v)
+
+  pub put-few-2 : {out out′ : List ℕ} {k r : ℕ} → length part ≡ 2 → out′ ≡ set (set out k (getD part 0 0)) (k + 1) (getD part 1 0) → r ≡ k + 2 → Put out k part out′ r
+  put-few-2 {out} {out′} {k} e u v =
+      let l : part ≡ getD part 0 0 ∷ getD part 1 0 ∷ [] = rest 0 (omega arith) ∙ (rw (rest 1 (omega arith), none 2 e)) in
+      record { same = u ∙ rw (l, add-one k); next = rw e v; long = ap length u ∙ simp length-set }
+
+  pub put-few-3 : {out out′ : List ℕ} {k r : ℕ} → 1 ≤ length part → length part ≤ 3 → (length part ≡ 1 → ⊥) → (length part ≡ 2 → ⊥) → out′ ≡ set (set (set out k (getD part 0 0)) (k + 1) (getD part 1 0)) (k + 2) (getD part 2 0) → r ≡ k + 3 → Put out k part out′ r
+  put-few-3 {out} {out′} {k} h g n m u v =
+      let e : length part ≡ 3 = omega arith in
+      let l : part ≡ getD part 0 0 ∷ getD part 1 0 ∷ getD part 2 0 ∷ [] = rest 0 (omega arith) ∙ (rw (rest 1 (omega arith), rest 2 (omega arith), none 3 e)) in
+      record { same = u ∙ rw (l, add-one k, add-two k); next = rw e v; long = ap length u ∙ simp length-set }
+
+  -- the last four
+  last : (i : ℕ) → i + 4 ≡ length part → take 4 (drop i part) ≡ drop i part
+  last i e = take-all 4 (drop i part) (omega (arith, length-drop i part))
+
+  pub put-fours : {out out₁ out₂ : List ℕ} {k k₁ r : ℕ} → 4 ≤ length part → length part < 8 → Put out k (take 4 (drop 0 part)) out₁ k₁ → Put out₁ (k + (length part - 4)) (take 4 (drop (length part - 4) part)) out₂ r → Put out k part out₂ r
+  put-fours h g p q = put-both part 4 h (omega arith) p (rw (last (length part - 4) (omega arith)) at q) refl
+
+  pub put-eights : {out out₁ out₂ out₃ out₄ : List ℕ} {k k₁ k₂ k₃ r : ℕ} → 8 ≤ length part → length part ≤ 16 → Put out k (take 4 (drop 0 part)) out₁ k₁ → Put out₁ k₁ (take 4 (drop 4 part)) out₂ k₂
+      → Put out₂ (k + (length part - 8)) (take 4 (drop (length part - 8) part)) out₃ k₃ → Put out₃ k₃ (take 4 (drop (length part - 4) part)) out₄ r → Put out k part out₄ r
+  put-eights h g p q p′ q′ =
+      let n = length part - 8 in
+      let far : drop 4 (drop n part) ≡ drop (length part - 4) part = drop-drop 4 n part ∙ (let e : n + 4 ≡ length part - 4 = omega arith in rw e) in
+      let end : drop n part ≡ take 4 (drop n part) ++ take 4 (drop (length part - 4) part) =
+      sym (take-append-drop 4 (drop n part)) ∙ rw (far, last (length part - 4) (omega arith)) in
+      put-both part 8 h (omega arith) (put-then p q (take-add 4 4 part)) (put-then p′ q′ end) refl
 
 -- ---- text records stored one by one
 pub record Texting (out₀ : List ℕ) (k₀ : ℕ) (text out : List ℕ) (i k : ℕ) : Type 0 where
@@ -74,6 +102,12 @@ module _ {out₀ text out : List ℕ} {k₀ i k n : ℕ} (t : Texting out₀ k�
 
   pub texting-byte : k + 1 ≤ length out
   texting-byte = omega (arith, texting-room)
+
+  pub texting-some : {e : ℕ} → e ≡ i + n → 1 ≤ length (take (e - i) (drop i text))
+  texting-some {e} v = omega (arith, length-take (e - i) (drop i text), length-drop i text)
+
+  pub texting-most : {e : ℕ} → e ≡ i + n → length (take (e - i) (drop i text)) ≤ 16
+  texting-most {e} v = omega (arith, length-take (e - i) (drop i text))
 
   pub texting-part : {b k₁ e : ℕ} {out₁ : List ℕ} → Put out k (b ∷ []) out₁ k₁ → e ≡ i + n → k₁ + length (take (e - i) (drop i text)) ≤ length out₁
   texting-part {b} {k₁} {e} p v = omega (arith, texting-room, p .next, p .long, length-take (e - i) (drop i text))

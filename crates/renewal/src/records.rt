@@ -32,16 +32,55 @@ fn put_word(key: &mut [u8], k: usize, n: u32) -> usize
     k + 4
 }
 
-fn put_bytes(key: &mut [u8], k: usize, part: &[u8]) -> usize
-    requires { ⌜ k + length (now part) ≤ length (now key) ⌝ }
+// Four bytes of a part, from its place i on: all are read before one is written, so that they compile to one load and one store.
+fn put_four(key: &mut [u8], k: usize, part: &[u8], i: usize) -> usize
+    requires { ⌜ (k + 4 ≤ length (now key)) × (i + 4 ≤ length (now part)) ⌝ }
+    ensures { λ r. ⌜ Put (now (key .entry)) k (take 4 (drop i (now (part .entry)))) (now (key .exit)) r ⌝ }
+{
+    let a = part[i];
+    let b = part[i + 1];
+    let c = part[i + 2];
+    let d = part[i + 3];
+    key[k] = a;
+    key[k + 1] = b;
+    key[k + 2] = c;
+    key[k + 3] = d;
+    k + 4
+}
+
+fn put_few(key: &mut [u8], k: usize, part: &[u8]) -> usize
+    requires { ⌜ (1 ≤ length (now part)) × (length (now part) ≤ 3) × (k + length (now part) ≤ length (now key)) ⌝ }
     ensures { λ r. ⌜ Put (now (key .entry)) k (now (part .entry)) (now (key .exit)) r ⌝ }
 {
-    let mut i = 0;
-    while i < part.len() {
-        key[k + i] = part[i];
-        i = i + 1;
+    key[k] = part[0];
+    if part.len() == 1 {
+        return k + 1;
     }
-    k + i
+    key[k + 1] = part[1];
+    if part.len() == 2 {
+        return k + 2;
+    }
+    key[k + 2] = part[2];
+    k + 3
+}
+
+// One to sixteen bytes, with no loop: the first four or eight and the last, which may overlap.
+fn put_bytes(key: &mut [u8], k: usize, part: &[u8]) -> usize
+    requires { ⌜ (1 ≤ length (now part)) × (length (now part) ≤ 16) × (k + length (now part) ≤ length (now key)) ⌝ }
+    ensures { λ r. ⌜ Put (now (key .entry)) k (now (part .entry)) (now (key .exit)) r ⌝ }
+{
+    let n = part.len();
+    if n < 4 {
+        return put_few(key, k, part);
+    }
+    if n < 8 {
+        put_four(key, k, part, 0);
+        return put_four(key, k + (n - 4), part, n - 4);
+    }
+    let a = put_four(key, k, part, 0);
+    put_four(key, a, part, 4);
+    let b = put_four(key, k + (n - 8), part, n - 8);
+    put_four(key, b, part, n - 4)
 }
 
 // How many bytes the next text record holds, where so many are left.

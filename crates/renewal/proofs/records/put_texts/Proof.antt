@@ -1,6 +1,6 @@
 use Prim.Native.Nat.{_-_}
 use lib.ListN.{length}
-use Rattle.renewal.proofs.Writing.{Texting, texting-none, texting-more, texting-end, texting-byte, texting-part}
+use Rattle.renewal.proofs.Writing.{Texting, texting-none, texting-more, texting-end, texting-byte, texting-some, texting-most, texting-part}
 use borrow.Author.Needs.{needs}
 use Rattle.renewal.proofs.records.put_texts.Statement.{statement}
 use Rattle.renewal.proofs.records.put_texts.Tie as tie
@@ -42,7 +42,7 @@ part-put-bytes-end : tie.Need-part-put-bytes-end Inv-loop μ-loop
 part-put-bytes-end c = search needs
 
 put-bytes-requires : tie.Need-put-bytes-requires Inv-loop μ-loop
-put-bytes-requires c κs = search (needs, texting-part)
+put-bytes-requires c κs = (search (needs, texting-some), search (needs, texting-most), search (needs, texting-part))
 
 loop-less : tie.Need-loop-less Inv-loop μ-loop
 loop-less c = search needs
