@@ -1,5 +1,6 @@
 #!/usr/bin/env python3
-"""inputs.py PROGRAMS OUT [BYTES]: writes the inputs of the measurement into OUT, each of about BYTES bytes (default 1,000,000), valid UTF-8.
+"""inputs.py PROGRAMS OUT [BYTES]: writes the inputs of the measurement into OUT, each of about BYTES bytes (default 1,000,000; the programs eight
+times as many), valid UTF-8.
 
 PROGRAMS is the folder of programs among the vectors. The generated ones come from one fixed seed.
 """
@@ -10,10 +11,10 @@ size = int(sys.argv[3]) if len(sys.argv) > 3 else 1_000_000
 os.makedirs(out, exist_ok=True)
 
 
-def write(name, pieces):
+def write(name, pieces, least=size):
     """pieces: a function that makes the next piece; whole pieces only."""
     parts, n = [], 0
-    while n < size:
+    while n < least:
         p = pieces().encode()
         parts.append(p)
         n += len(p)
@@ -37,7 +38,7 @@ marks = ";,.(){}[]~?:=!<>-&|+*^%"
 words = "prepare the two qubits and measure them after a delay of some time; then reset".split()
 
 whole = joined()
-write("a-programs", lambda: whole)
+write("a-programs", lambda: whole, 8 * size)
 write("b-ascii-names", lambda: r.choice(low) + "".join(r.choice(all_) for _ in range(r.randrange(0, 14))) + " ")
 write(
     "c-greek",
