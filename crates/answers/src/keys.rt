@@ -1,160 +1,122 @@
 // The tasks on keys.
-use crate::TEXT;
-use crate::output::put;
-use crate::output::put_all;
-use crate::tasks::put_answer;
-use crate::tasks::refuse;
+use crate::output::UNREADABLE;
+use crate::output::print;
+use crate::output::print_answer;
+use crate::output::print_hex;
+use crate::output::unreadable;
+use crate::tasks::has_room;
+use crate::tasks::lent;
+use crate::tasks::shown;
 use crate::words;
-use crate::words::Number;
+use crate::words::Asked;
+use crate::words::Text;
+use crate::words::part;
 use renewal::renewal_key;
 use text::Answer;
 
 // The most bytes of a key, eleven for each byte of the longest text.
 const KEY: usize = 360448;
 
-fn digit(d: u8) -> u8 {
-    if d < 10 { b'0' + d } else { b'a' - 10 + d % 16 }
+type Key = [u8; KEY];
+
+// Lends as much as the task asks.
+fn call_in(task: usize, text: &[u8], asked: Asked, key: &mut [u8]) -> Answer {
+    let k = lent(task, asked, key.len());
+    if key.len() < k {
+        return unreadable();
+    }
+    renewal_key(text, asked.first, &mut key[0..k])
 }
 
-// Two digits for each byte; a hyphen for none.
-fn put_hex(out: &mut [u8], used: usize, bytes: &[u8]) -> usize {
-    if bytes.len() == 0 {
-        return put(out, used, b'-');
+// Whether bytes are shown, if only a hyphen for none.
+fn shows(task: usize, given: Answer) -> bool {
+    if given.number == UNREADABLE {
+        return false;
     }
-    let mut total = used;
-    let mut i = 0;
-    while i < bytes.len() {
-        total = put(out, total, digit(bytes[i] / 16));
-        total = put(out, total, digit(bytes[i] % 16));
-        i += 1;
+    if has_room(task) {
+        return true;
     }
-    total
+    given.number == text::DONE
 }
 
-// The first n bytes, or all where there are fewer.
-fn part(bytes: &[u8], n: u64) -> &[u8] {
-    let end = n as usize;
-    if end < bytes.len() {
-        return &bytes[0..end];
+// key and keyroom: what `renewal_key` answers, and the bytes.
+fn answer_in(task: usize, text: &[u8], asked: Asked, key: &mut Key) {
+    let given = call_in(task, text, asked, key);
+    print_answer(given);
+    if shows(task, given) {
+        print_hex(part(key, shown(task, asked, given)));
     }
-    bytes
 }
 
-// The answer of `renewal_key`, and the key where it is done.
-fn key_of(text: &[u8], profile: u32, key: &mut [u8], out: &mut [u8], used: usize) -> usize {
-    let given = renewal_key(text, profile, key);
-    let used = put_answer(out, used, given);
-    if given.number != text::DONE {
-        return used;
-    }
-    let used = put(out, used, b' ');
-    put_hex(out, used, part(key, given.also))
-}
-
-// key PROFILE HEX: the key, in room that cannot be short.
-pub fn key(arguments: &[u8], room: &mut [u8], out: &mut [u8], used: usize) -> usize {
-    let Number::Is(profile) = words::decimal(words::first(arguments)) else {
-        return refuse(out, used);
-    };
-    let bytes = words::hex(words::rest(arguments), room);
-    if !bytes.right {
-        return refuse(out, used);
-    }
-    let n = bytes.count;
-    let text = &room[0..n];
-    let mut key = [0u8; KEY];
-    key_of(text, profile, &mut key, out, used)
-}
-
-// The answer of `renewal_key`, and every byte of the room after it.
-fn bytes_after(text: &[u8], profile: u32, key: &mut [u8], out: &mut [u8], used: usize) -> usize {
-    let given = renewal_key(text, profile, key);
-    let used = put_answer(out, used, given);
-    let used = put(out, used, b' ');
-    put_hex(out, used, key)
-}
-
-// keyroom PROFILE BYTES HEX: what `renewal_key` answers and leaves in room for so many bytes, so that a byte that it doesn't write is seen.
-pub fn keyroom(arguments: &[u8], room: &mut [u8], out: &mut [u8], used: usize) -> usize {
-    let Number::Is(profile) = words::decimal(words::first(arguments)) else {
-        return refuse(out, used);
-    };
-    let behind = words::rest(arguments);
-    let Number::Is(size) = words::decimal(words::first(behind)) else {
-        return refuse(out, used);
-    };
-    let bytes = words::hex(words::rest(behind), room);
-    if !bytes.right {
-        return refuse(out, used);
-    }
-    let k = size as usize;
-    if KEY < k {
-        return refuse(out, used);
-    }
-    let n = bytes.count;
-    let text = &room[0..n];
+pub fn answer(task: usize, text: &[u8], asked: Asked) {
     let mut key = [0xA5u8; KEY];
-    bytes_after(text, profile, &mut key[0..k], out, used)
+    answer_in(task, text, asked, &mut key);
 }
 
-// What became of a word: whether it writes a text, and what `renewal_key` answered.
-struct Made {
-    read: bool,
-    number: u32,
-    also: u64,
-}
-
-fn make(word: &[u8], profile: u32, room: &mut [u8], key: &mut [u8]) -> Made {
+// Makes the key of the text that a word writes.
+fn make(word: &[u8], profile: u32, room: &mut Text, key: &mut Key) -> Answer {
     let bytes = words::hex(word, room);
     if !bytes.right {
-        return Made {
-            read: false,
-            number: text::NOT_UTF8,
-            also: 0,
-        };
+        return unreadable();
     }
-    let n = bytes.count;
-    let given = renewal_key(&room[0..n], profile, key);
-    Made {
-        read: true,
-        number: given.number,
-        also: given.also,
+    renewal_key(part(room, bytes.count), profile, key)
+}
+
+// Whether two keys are the same, 1 or 0, or what refuses the first text that has none.
+fn verdict(a: Answer, b: Answer, same: bool) -> Answer {
+    if a.number != text::DONE {
+        return a;
+    }
+    if b.number != text::DONE {
+        return b;
+    }
+    Answer {
+        number: text::DONE,
+        also: same as u64,
     }
 }
 
-fn put_made(out: &mut [u8], used: usize, made: Made) -> usize {
-    if !made.read {
-        return refuse(out, used);
+// Makes the keys of the two texts, and compares them.
+fn compare(
+    texts: &[u8],
+    profile: u32,
+    room: &mut Text,
+    before: &mut Key,
+    after: &mut Key,
+) -> Answer {
+    let a = make(words::first(texts), profile, room, before);
+    let b = make(words::rest(texts), profile, room, after);
+    let same = words::same(part(before, a.also as usize), part(after, b.also as usize));
+    verdict(a, b, same)
+}
+
+fn compare_words(words: &[u8]) -> Answer {
+    let profile = words::decimal(words::first(words));
+    if !profile.right {
+        return unreadable();
     }
-    put_answer(
-        out,
-        used,
-        Answer {
-            number: made.number,
-            also: made.also,
-        },
+    let mut room = [0u8; words::TEXT];
+    let mut before = [0u8; KEY];
+    let mut after = [0u8; KEY];
+    compare(
+        words::rest(words),
+        profile.value,
+        &mut room,
+        &mut before,
+        &mut after,
     )
 }
 
-// pair PROFILE HEX HEX: whether two texts share a key, or what refuses the first that has none.
-pub fn pair(arguments: &[u8], room: &mut [u8], out: &mut [u8], used: usize) -> usize {
-    let Number::Is(profile) = words::decimal(words::first(arguments)) else {
-        return refuse(out, used);
-    };
-    let behind = words::rest(arguments);
-    let mut before = [0u8; KEY];
-    let a = make(words::first(behind), profile, room, &mut before);
-    if a.number != text::DONE {
-        return put_made(out, used, a);
+// pair: whether two texts share a key.
+pub fn pair(words: &[u8]) {
+    let given = compare_words(words);
+    if given.number != text::DONE {
+        print_answer(given);
+        return;
     }
-    let mut other = [0u8; TEXT];
-    let mut after = [0u8; KEY];
-    let b = make(words::rest(behind), profile, &mut other, &mut after);
-    if b.number != text::DONE {
-        return put_made(out, used, b);
+    if given.also == 1 {
+        print(b"same")
+    } else {
+        print(b"differ")
     }
-    if words::same(part(&before, a.also), part(&after, b.also)) {
-        return put_all(out, used, b"same");
-    }
-    put_all(out, used, b"differ")
 }

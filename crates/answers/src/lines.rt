@@ -1,71 +1,59 @@
-// Standard input cut into lines.
+// Standard input cut into lines. `have` is how many bytes of the line have been read, or one more than its buffer holds if it is
+// too long.
 ghost use Prim.Native.Nat.{_≤_};
-ghost use lib.ListN.{length};
-use crate::output::flush;
 use crate::tasks::answer_line;
 use libc::STDIN_FILENO;
 
-// How many bytes of the line have been read, or one more than its buffer holds if it is too long; and how many bytes of the
-// output wait to be written.
-pub struct Counts {
-    pub line: usize,
-    pub out: usize,
-}
+// The most bytes of a line that is answered.
+pub const LINE: usize = 65536;
 
-// Reads once, and answers how many bytes came: 0 at the end of the input.
-pub fn read(input: &mut [u8]) -> usize
-    ensures { λ r. ⌜ r ≤ length (now (input .exit)) ⌝ }
-{
-    let got = libc::read(STDIN_FILENO, input);
-    io::count(got, input)
-}
+pub type Buffer = [u8; LINE];
 
-// Keeps the next byte of the line, or notes that the line is too long.
-fn keep(line: &mut [u8], have: usize, b: u8) -> usize {
-    if have < line.len() {
+// Takes the next byte: keeps it, answers the line that it ends, or notes that the line is too long.
+fn take(b: u8, line: &mut Buffer, have: usize) -> usize {
+    if b == b'\n' {
+        answer_line(line, have);
+        return 0;
+    }
+    if have < LINE {
         line[have] = b;
         return have + 1;
     }
-    line.len() + 1
+    LINE + 1
 }
 
-// Takes the next byte: keeps it, or answers the line that it ends.
-fn take(b: u8, line: &mut [u8], room: &mut [u8], out: &mut [u8], counts: Counts) -> Counts {
-    if b == b'\n' {
-        return Counts {
-            line: 0,
-            out: answer_line(line, counts.line, room, out, counts.out),
-        };
-    }
-    Counts {
-        line: keep(line, counts.line, b),
-        out: counts.out,
-    }
-}
-
-// Goes through what was read.
-pub fn pass(
-    input: &[u8],
-    line: &mut [u8],
-    room: &mut [u8],
-    out: &mut [u8],
-    counts: Counts,
-) -> Counts {
-    let mut state = counts;
+// Goes through what was read, the first `got` bytes.
+fn pass(input: &Buffer, got: usize, line: &mut Buffer, have: usize) -> usize
+    requires { ⌜ got ≤ 65536 ⌝ }
+{
+    let mut now = have;
     let mut i = 0;
-    while i < input.len() {
-        state = take(input[i], line, room, out, state);
+    while i < got {
+        now = take(input[i], line, now);
         i += 1;
     }
-    state
+    now
 }
 
-// Answers a last line that no LF ends, and writes out what waits.
-pub fn finish(line: &[u8], room: &mut [u8], out: &mut [u8], counts: Counts) {
-    if counts.line == 0 {
-        flush(out, counts.out);
-        return;
+// Goes through the input, and answers how much of a last line is left. A proved loop has to end, and nothing says that the input
+// does. So the loop counts its turns down, from a number that no run uses up.
+pub fn run(input: &mut Buffer, line: &mut Buffer) -> usize {
+    let mut have = 0;
+    let mut turns = u64::MAX;
+    while 0 < turns {
+        let got = io::read_full(STDIN_FILENO, input);
+        if got == 0 {
+            return have;
+        }
+        have = pass(input, got, line, have);
+        turns -= 1;
     }
-    let used = answer_line(line, counts.line, room, out, counts.out);
-    flush(out, used);
+    have
+}
+
+// Answers a last line that no LF ends.
+pub fn finish(line: &Buffer, have: usize) {
+    if 0 < have {
+        answer_line(line, have);
+    }
 }

@@ -1,42 +1,83 @@
-// The output, collected in a buffer of which `used` bytes wait to be written. Each function answers how many wait then.
+// What is printed. A write that fails goes unsaid: a program has no exit status.
 use libc::STDOUT_FILENO;
+use text::Answer;
 
-// A write that fails goes unsaid: a program has no exit status.
-pub fn flush(out: &[u8], used: usize) {
-    if used <= out.len() {
-        io::write_all(STDOUT_FILENO, &out[0..used]);
+// The number of an answer that stands for what can't be read: the libraries give none so large.
+pub const UNREADABLE: u32 = 0xFFFFFFFF;
+
+pub fn unreadable() -> Answer {
+    Answer {
+        number: UNREADABLE,
+        also: 0,
     }
 }
 
-// Adds a byte, for which a full buffer is written out first.
-pub fn put(out: &mut [u8], used: usize, b: u8) -> usize {
-    if used < out.len() {
-        out[used] = b;
-        return used + 1;
-    }
-    flush(out, used);
-    if 0 < out.len() {
-        out[0] = b;
-    }
-    1
+pub fn print(bytes: &[u8]) {
+    io::write_all(STDOUT_FILENO, bytes);
 }
 
-pub fn put_all(out: &mut [u8], used: usize, bytes: &[u8]) -> usize {
-    let mut n = used;
+pub fn print_number(number: u64) {
+    io::print_decimal(STDOUT_FILENO, number);
+}
+
+pub fn refuse() {
+    print(b"unreadable");
+}
+
+pub fn print_also(given: Answer) {
+    print(b" ");
+    print_number(given.also);
+}
+
+pub fn print_answer(given: Answer) {
+    if given.number == UNREADABLE {
+        refuse();
+        return;
+    }
+    print_number(given.number as u64);
+    print_also(given);
+}
+
+// A word, with a comma before it if it goes on a record, else a space.
+pub fn print_word(word: u32, joined: bool) {
+    if joined {
+        print(b",")
+    } else {
+        print(b" ")
+    }
+    print_number(word as u64);
+}
+
+// How many words, or whole records, stand before a word.
+fn before(i: usize, records: bool) -> usize {
+    if records { i / 3 } else { i }
+}
+
+// The first n words of a list, or its first n `records`.
+pub fn print_words(list: &[u32], n: usize, records: bool) {
     let mut i = 0;
-    while i < bytes.len() {
-        n = put(out, n, bytes[i]);
+    while i < list.len() {
+        if n <= before(i, records) {
+            return;
+        }
+        print_word(list[i], records & (i % 3 != 0));
         i += 1;
     }
-    n
 }
 
-pub fn put_number(out: &mut [u8], used: usize, number: u64) -> usize {
-    let mut digits = [0u8; 20];
-    let k = io::decimal(number, &mut digits);
-    put_all(out, used, &digits[..k])
+fn print_byte(b: u8) {
+    io::print_hex(STDOUT_FILENO, b as u64, 2);
 }
 
-pub fn put_word(out: &mut [u8], used: usize, word: u32) -> usize {
-    put_number(out, used, word as u64)
+// A space, and two digits for each byte; a hyphen for none.
+pub fn print_hex(bytes: &[u8]) {
+    print(b" ");
+    if bytes.len() == 0 {
+        print(b"-");
+    }
+    let mut i = 0;
+    while i < bytes.len() {
+        print_byte(bytes[i]);
+        i += 1;
+    }
 }

@@ -1,73 +1,190 @@
-// The task on rows of records.
-use crate::output::put;
-use crate::output::put_word;
-use crate::tasks::put_answer;
-use crate::tasks::refuse;
-use crate::words;
-use crate::words::Number;
+// The tasks on tokens and items: lists of words, three for each, and rows of records.
+ghost use Prim.Native.Nat.{_≤_, _*_, _+_};
+ghost use lib.ListN.{length};
+use crate::output::print_answer;
+use crate::output::print_word;
+use crate::output::print_words;
+use crate::output::refuse;
+use crate::output::unreadable;
+use crate::tasks;
+use crate::tasks::has_room;
+use crate::tasks::lent;
+use crate::tasks::shown;
+use crate::words::Asked;
+use rows::Row;
 use rows::Token;
 use rows::rows_of;
+use text::Answer;
+
+// The most words of a list, three for each byte of the longest text.
+const LIST: usize = 98304;
+
+type List = [u32; LIST];
 
 // The most records of a row.
 const ROW: usize = 64;
 
-// The three words of a record.
-fn put_record(out: &mut [u8], used: usize, t: Token) -> usize {
-    let used = put(out, used, b' ');
-    let used = put_word(out, used, t.kind);
-    let used = put(out, used, b' ');
-    let used = put_word(out, used, t.len);
-    let used = put(out, used, b' ');
-    put_word(out, used, t.suffix)
+// What stands in a word before the call.
+const BLANK: u32 = 0xA5A5A5A5;
+
+// Strings and bit strings, closed or not, are the kinds from 56 to 61. The closed ones are odd.
+const FIRST_STR: u32 = 56;
+
+const LAST_STR: u32 = 61;
+
+fn wide(word: u32) -> usize
+    ensures { λ r. ⌜ r ≤ 4294967295 ⌝ }
+{
+    word as usize
 }
 
-// The first n records of a row.
-fn put_records(out: &mut [u8], used: usize, row: [Token; 64], n: usize) -> usize {
-    let mut total = used;
+// Where the record `index` of a list of tokens starts in the text.
+fn start_of(list: &[u32], index: usize) -> usize
+    requires { ⌜ (3 * index ≤ length (now list)) × (index ≤ 4294967295) ⌝ }
+    ensures { λ r. ⌜ r ≤ index * 4294967295 ⌝ }
+{
+    let mut start = 0;
+    let mut i = 0;
+    while i < index {
+        start += wide(list[3 * i + 1]);
+        i += 1;
+    }
+    start
+}
+
+// A part of the text, if there is one.
+struct Part {
+    right: bool,
+    from: usize,
+    to: usize,
+}
+
+const NO_PART: Part = Part {
+    right: false,
+    from: 0,
+    to: 0,
+};
+
+// The body of a string that starts there: behind its quote, and before the one that closes it.
+fn body_at(kind: u32, start: usize, suffix: usize) -> Part
+    requires { ⌜ (start ≤ 18446744065119617025) × (suffix ≤ 4294967295) ⌝ }
+{
+    if kind < FIRST_STR {
+        return NO_PART;
+    }
+    if LAST_STR < kind {
+        return NO_PART;
+    }
+    if suffix == 0 {
+        return NO_PART;
+    }
+    Part {
+        right: true,
+        from: start + 1,
+        to: start + suffix - (kind % 2) as usize,
+    }
+}
+
+// The body of a token, of those that a list has after `tokenize`.
+fn token_body(list: &[u32], cut: Answer, index: usize) -> Part
+    requires { ⌜ index ≤ 4294967295 ⌝ }
+{
+    if cut.number != text::DONE {
+        return NO_PART;
+    }
+    if cut.also <= index as u64 {
+        return NO_PART;
+    }
+    if list.len() / 3 <= index {
+        return NO_PART;
+    }
+    body_at(
+        list[3 * index],
+        start_of(list, index),
+        wide(list[3 * index + 2]),
+    )
+}
+
+// The answer where there is none.
+fn no_body(cut: Answer) -> Answer {
+    if cut.number == text::DONE {
+        unreadable()
+    } else {
+        cut
+    }
+}
+
+// body: the items of the body of a token.
+fn body(text: &[u8], asked: Asked, list: &mut [u32]) -> Answer {
+    let cut = lexer::list::tokenize(text, asked.first, list);
+    let part = token_body(list, cut, asked.second as usize);
+    if !part.right {
+        return no_body(cut);
+    }
+    unescape::unescape_part(text, part.from, part.to, asked.third, list)
+}
+
+// tok and tokroom: the tokens. unescape and itemroom: the items.
+fn call(task: usize, text: &[u8], asked: Asked, list: &mut [u32]) -> Answer {
+    match task {
+        tasks::TOK | tasks::TOKROOM => lexer::list::tokenize(text, asked.first, list),
+        tasks::BODY => body(text, asked, list),
+        _ => unescape::unescape_literal(text, asked.first, list),
+    }
+}
+
+// Lends as much as the task asks.
+fn call_in(task: usize, text: &[u8], asked: Asked, list: &mut [u32]) -> Answer {
+    let k = lent(task, asked, list.len());
+    if list.len() < k {
+        return unreadable();
+    }
+    call(task, text, asked, &mut list[0..k])
+}
+
+fn answer_in(task: usize, text: &[u8], asked: Asked, list: &mut List) {
+    let given = call_in(task, text, asked, list);
+    print_answer(given);
+    print_words(list, shown(task, asked, given), !has_room(task));
+}
+
+pub fn answer(task: usize, text: &[u8], asked: Asked) {
+    let mut list = [BLANK; LIST];
+    answer_in(task, text, asked, &mut list);
+}
+
+fn print_record(t: Token) {
+    print_word(t.kind, false);
+    print_word(t.len, false);
+    print_word(t.suffix, false);
+}
+
+fn print_row(row: Row, n: usize) {
     let mut i = 0;
     while i < ROW {
         if n <= i {
-            return total;
+            return;
         }
         let t = row[i];
-        total = put_record(out, total, t);
+        print_record(t);
         i += 1;
     }
-    total
 }
 
-// The answer of `tokenize_rows`, and every record of the row after it.
-fn records_after(text: &[u8], profile: u32, records: usize, out: &mut [u8], used: usize) -> usize {
+// rowroom: what `tokenize_rows` answers, and the row after it.
+pub fn rowroom(text: &[u8], asked: Asked) {
+    let n = asked.second as usize;
+    if ROW < n {
+        refuse();
+        return;
+    }
     let blank = Token {
-        kind: 0xA5A5A5A5,
-        len: 0xA5A5A5A5,
-        suffix: 0xA5A5A5A5,
+        kind: BLANK,
+        len: BLANK,
+        suffix: BLANK,
     };
-    let row = [blank; 64];
-    let given = rows_of(text, profile, row, records);
-    let answer = given.answer;
-    let after = given.row;
-    let used = put_answer(out, used, answer);
-    put_records(out, used, after, records)
-}
-
-// rowroom PROFILE RECORDS HEX: what `tokenize_rows` answers and leaves in a row of so many records, so that a record that it doesn't write is seen.
-pub fn rowroom(arguments: &[u8], room: &mut [u8], out: &mut [u8], used: usize) -> usize {
-    let Number::Is(profile) = words::decimal(words::first(arguments)) else {
-        return refuse(out, used);
-    };
-    let behind = words::rest(arguments);
-    let Number::Is(size) = words::decimal(words::first(behind)) else {
-        return refuse(out, used);
-    };
-    let bytes = words::hex(words::rest(behind), room);
-    if !bytes.right {
-        return refuse(out, used);
-    }
-    let k = size as usize;
-    if ROW < k {
-        return refuse(out, used);
-    }
-    let n = bytes.count;
-    records_after(&room[0..n], profile, k, out, used)
+    let given = rows_of(text, asked.first, [blank; 64], n);
+    let row = given.row;
+    print_answer(given.answer);
+    print_row(row, n);
 }

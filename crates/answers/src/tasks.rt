@@ -1,217 +1,159 @@
-// The tasks: each is a function of its arguments and an arm of `answer`.
-use crate::bodies;
+// The tasks, in the order of their numbers:
+//     cp N, lowbyte N, mode M, fatal E
+//     utf8 HEX, ident HEX, char HEX, byte HEX
+//     tok PROFILE HEX, unescape MODE HEX, key PROFILE HEX
+//     tokroom PROFILE WORDS HEX, itemroom MODE WORDS HEX, keyroom PROFILE BYTES HEX, rowroom PROFILE RECORDS HEX
+//     body PROFILE INDEX MODE HEX, pair PROFILE HEX HEX
 use crate::keys;
-use crate::output::put;
-use crate::output::put_all;
-use crate::output::put_number;
-use crate::output::put_word;
+use crate::numbers;
+use crate::output::UNREADABLE;
+use crate::output::print;
+use crate::output::print_answer;
+use crate::output::refuse;
 use crate::records;
+use crate::texts;
 use crate::words;
-use crate::words::Number;
+use crate::words::Asked;
+use crate::words::Text;
+use crate::words::part;
 use text::Answer;
 
-// The most words of a list, three for each byte of the longest text.
-pub const LIST: usize = 98304;
+// The numbers that the code names: a task's place among the names.
+pub const CP: usize = 0;
 
-// The answer to what can't be read.
-pub fn refuse(out: &mut [u8], used: usize) -> usize {
-    put_all(out, used, b"unreadable")
+pub const LOWBYTE: usize = 1;
+
+pub const MODE: usize = 2;
+
+const FATAL: usize = 3;
+
+pub const UTF8: usize = 4;
+
+pub const IDENT: usize = 5;
+
+pub const CHAR: usize = 6;
+
+const BYTE: usize = 7;
+
+pub const TOK: usize = 8;
+
+const KEY: usize = 10;
+
+pub const TOKROOM: usize = 11;
+
+const KEYROOM: usize = 13;
+
+const ROWROOM: usize = 14;
+
+pub const BODY: usize = 15;
+
+const PAIR: usize = 16;
+
+const UNKNOWN: usize = 17;
+
+// The task of a line that is too long.
+const TOO_LONG: usize = 18;
+
+fn task_of(line: &[u8], long: bool) -> usize {
+    if long {
+        return TOO_LONG;
+    }
+    words::find(
+        words::first(line),
+        b"cp lowbyte mode fatal utf8 ident char byte tok unescape key tokroom itemroom keyroom rowroom body pair",
+    )
 }
 
-fn bit(b: bool) -> u8 {
-    if b { b'1' } else { b'0' }
+// How many numbers stand before the text.
+fn numbers_of(task: usize) -> u32 {
+    if task <= BYTE {
+        return 0;
+    }
+    if task <= KEY {
+        return 1;
+    }
+    if task <= ROWROOM {
+        return 2;
+    }
+    3
 }
 
-// cp N: what the tests on characters say of the code point N.
-fn cp(arguments: &[u8], out: &mut [u8], used: usize) -> usize {
-    let Number::Is(c) = words::decimal(arguments) else {
-        return refuse(out, used);
-    };
-    let bits = [
-        bit(lexer::is_whitespace(c)),
-        b' ',
-        bit(lexer::is_id_start(c)),
-        b' ',
-        bit(lexer::is_id_continue(c)),
-        b' ',
-        bit(unicode::properties::is_emoji(c)),
-        b' ',
-        bit(unicode::properties::is_white_space(c)),
-    ];
-    put_all(out, used, &bits)
+// Whether the task is one of the four that lend a call memory of a given size, with A5 in each byte, and show all of it after the
+// call, so that what the call doesn't write is seen. The others lend more than a call can need, and show what it wrote.
+pub fn has_room(task: usize) -> bool {
+    numbers_of(task) == 2
 }
 
-fn characters(text: &[u8]) -> usize {
-    let mut count = 0;
-    let mut at = 0;
-    while at < text.len() {
-        let c = unicode::utf8::decode(text, at);
-        at = at + c.wide;
-        count += 1;
+// How much of the memory is lent, in words or bytes.
+pub fn lent(task: usize, asked: Asked, all: usize) -> usize {
+    if has_room(task) {
+        asked.second as usize
+    } else {
+        all
     }
-    count
 }
 
-// utf8 HEX: 0 and the number of characters, or the refusal: 3 and the length of the longest well-formed beginning.
-fn utf8(arguments: &[u8], room: &mut [u8], out: &mut [u8], used: usize) -> usize {
-    let bytes = words::hex(arguments, room);
-    if !bytes.right {
-        return refuse(out, used);
+// How much of it is shown, in records, words or bytes.
+pub fn shown(task: usize, asked: Asked, given: Answer) -> usize {
+    if given.number == UNREADABLE {
+        return 0;
     }
-    let n = bytes.count;
-    let text = &room[0..n];
-    let checked = text::check_text(text);
-    let used = put_word(out, used, checked.number);
-    let used = put(out, used, b' ');
-    if checked.number != text::DONE {
-        return put_number(out, used, checked.also);
+    if has_room(task) {
+        return asked.second as usize;
     }
-    put_number(out, used, characters(text) as u64)
+    if given.number == text::DONE {
+        given.also as usize
+    } else {
+        0
+    }
 }
 
-// What stands before a word of a list.
-fn mark(i: usize, records: bool) -> u8 {
-    if i % 3 == 0 {
-        return b' ';
+// Answers a task by its numbers and its text.
+fn on_text(task: usize, asked: Asked, text: &[u8]) {
+    if task <= BYTE {
+        print_answer(texts::answer(task, text));
+        return;
     }
-    if records { b',' } else { b' ' }
+    match task {
+        KEY | KEYROOM => keys::answer(task, text, asked),
+        ROWROOM => records::rowroom(text, asked),
+        _ => records::answer(task, text, asked),
+    }
 }
 
-// The words of the first n records of a list, joined by commas if they are to be read as `records`.
-pub fn put_words(out: &mut [u8], used: usize, list: &[u32], n: u64, records: bool) -> usize {
-    let mut total = used;
-    let mut i = 0;
-    while i < list.len() {
-        if n <= (i / 3) as u64 {
-            return total;
-        }
-        total = put(out, total, mark(i, records));
-        total = put_word(out, total, list[i]);
-        i += 1;
+// Reads the numbers and the text.
+fn read_in(task: usize, arguments: &[u8], room: &mut Text) {
+    let asked = words::ask(arguments, numbers_of(task), room);
+    if !asked.right {
+        refuse();
+        return;
     }
-    total
+    on_text(task, asked, part(room, asked.count));
 }
 
-pub fn put_answer(out: &mut [u8], used: usize, given: Answer) -> usize {
-    let used = put_word(out, used, given.number);
-    let used = put(out, used, b' ');
-    put_number(out, used, given.also)
+fn read(task: usize, arguments: &[u8]) {
+    let mut room = [0u8; words::TEXT];
+    read_in(task, arguments, &mut room);
 }
 
-// The answer of `tokenize`, and the tokens where it is done.
-fn tokens(text: &[u8], profile: u32, list: &mut [u32], out: &mut [u8], used: usize) -> usize {
-    let given = lexer::list::tokenize(text, profile, list);
-    let used = put_answer(out, used, given);
-    if given.number != text::DONE {
-        return used;
+fn answer(task: usize, arguments: &[u8]) {
+    if task <= FATAL {
+        numbers::answer(task, arguments);
+        return;
     }
-    put_words(out, used, list, given.also, true)
+    match task {
+        PAIR => keys::pair(arguments),
+        UNKNOWN => print(b"unknown"),
+        TOO_LONG => refuse(),
+        _ => read(task, arguments),
+    }
 }
 
-// tok PROFILE HEX: the tokens, in a list that has room for as many as the text has bytes.
-fn tok(arguments: &[u8], room: &mut [u8], out: &mut [u8], used: usize) -> usize {
-    let Number::Is(profile) = words::decimal(words::first(arguments)) else {
-        return refuse(out, used);
-    };
-    let bytes = words::hex(words::rest(arguments), room);
-    if !bytes.right {
-        return refuse(out, used);
-    }
-    let n = bytes.count;
-    let text = &room[0..n];
-    let mut list = [0u32; LIST];
-    tokens(text, profile, &mut list, out, used)
-}
-
-// The answer of `tokenize`, and every word of the list after it.
-fn words_after(text: &[u8], profile: u32, list: &mut [u32], out: &mut [u8], used: usize) -> usize {
-    let given = lexer::list::tokenize(text, profile, list);
-    let used = put_answer(out, used, given);
-    put_words(out, used, list, u64::MAX, false)
-}
-
-// tokroom PROFILE WORDS HEX: what `tokenize` answers and leaves in a list of so many words, so that a word that it doesn't write is seen.
-fn tokroom(arguments: &[u8], room: &mut [u8], out: &mut [u8], used: usize) -> usize {
-    let Number::Is(profile) = words::decimal(words::first(arguments)) else {
-        return refuse(out, used);
-    };
-    let behind = words::rest(arguments);
-    let Number::Is(size) = words::decimal(words::first(behind)) else {
-        return refuse(out, used);
-    };
-    let bytes = words::hex(words::rest(behind), room);
-    if !bytes.right {
-        return refuse(out, used);
-    }
-    let k = size as usize;
-    if LIST < k {
-        return refuse(out, used);
-    }
-    let n = bytes.count;
-    let text = &room[0..n];
-    let mut list = [0xA5A5A5A5u32; LIST];
-    words_after(text, profile, &mut list[0..k], out, used)
-}
-
-// ident HEX: whether the text is an identifier, or the refusal.
-fn ident(arguments: &[u8], room: &mut [u8], out: &mut [u8], used: usize) -> usize {
-    let bytes = words::hex(arguments, room);
-    if !bytes.right {
-        return refuse(out, used);
-    }
-    let n = bytes.count;
-    let text = &room[0..n];
-    put_answer(out, used, lexer::is_ident(text))
-}
-
-fn answer(line: &[u8], room: &mut [u8], out: &mut [u8], used: usize) -> usize {
-    let task = words::first(line);
-    let arguments = words::rest(line);
-    if words::same(task, b"cp") {
-        return cp(arguments, out, used);
-    }
-    if words::same(task, b"utf8") {
-        return utf8(arguments, room, out, used);
-    }
-    if words::same(task, b"tok") {
-        return tok(arguments, room, out, used);
-    }
-    if words::same(task, b"tokroom") {
-        return tokroom(arguments, room, out, used);
-    }
-    if words::same(task, b"rowroom") {
-        return records::rowroom(arguments, room, out, used);
-    }
-    if words::same(task, b"ident") {
-        return ident(arguments, room, out, used);
-    }
-    if words::same(task, b"key") {
-        return keys::key(arguments, room, out, used);
-    }
-    if words::same(task, b"keyroom") {
-        return keys::keyroom(arguments, room, out, used);
-    }
-    if words::same(task, b"pair") {
-        return keys::pair(arguments, room, out, used);
-    }
-    bodies::answer(task, arguments, room, out, used)
-}
-
-// The line, of which `have` bytes were read, and its answer. Of a line too long the buffer has the beginning.
-pub fn answer_line(
-    line: &[u8],
-    have: usize,
-    room: &mut [u8],
-    out: &mut [u8],
-    used: usize,
-) -> usize {
-    if line.len() < have {
-        let used = put_all(out, used, line);
-        return put_all(out, used, b" = unreadable\n");
-    }
-    let whole = &line[0..have];
-    let used = put_all(out, used, whole);
-    let used = put_all(out, used, b" = ");
-    let used = answer(whole, room, out, used);
-    put(out, used, b'\n')
+// Prints the line, of which `have` bytes were read, and its answer. Of a line too long the buffer has the beginning.
+pub fn answer_line(line: &[u8], have: usize) {
+    let whole = part(line, have);
+    print(whole);
+    print(b" = ");
+    answer(task_of(whole, line.len() < have), words::rest(whole));
+    print(b"\n");
 }

@@ -1,24 +1,19 @@
 use Prim.Native.Nat.{_≤_, _-_}
-use mathlib.Core.Path.{_≡_}
-use lib.ListN.{length}
-use Prim.Native.Nat.{_≤_, _-_}
-use mathlib.Core.Path.{_≡_}
-use lib.ListN.{length}
 use borrow.Author.Needs.{needs}
 use Rattle.answers.proofs.lines.pass.Statement.{statement}
 use Rattle.answers.proofs.lines.pass.Tie as tie
 
 abbrev Inv-loop : tie.InvT-loop
-Inv-loop input line₀ room₀ out₀ state₀ i₀ line room out state i = (i ≤ length input) × (length line ≡ length line₀) × (length room ≡ length room₀) × (length out ≡ length out₀)
+Inv-loop input got line₀ have now₀ i₀ line now i = i ≤ got
 
 abbrev μ-loop : tie.MeasureT-loop
-μ-loop input line₀ room₀ out₀ state₀ i₀ line room out state i = length input - i
+μ-loop input got line₀ have now₀ i₀ line now i = got - i
 
 loop-holds : tie.Need-loop-holds Inv-loop μ-loop
 loop-holds c = search needs
 
-shared-slice-read-take : tie.Need-shared-slice-read-take Inv-loop μ-loop
-shared-slice-read-take c = search needs
+element-copy-out-take : tie.Need-element-copy-out-take Inv-loop μ-loop
+element-copy-out-take c = search needs
 
 take-requires : tie.Need-take-requires Inv-loop μ-loop
 take-requires c κs = search needs
@@ -32,15 +27,6 @@ loop-less c = search needs
 loop-again : tie.Need-loop-again Inv-loop μ-loop
 loop-again c = search needs
 
-same-length : tie.Need-same-length Inv-loop μ-loop
-same-length c = search needs
-
-same-length-2 : tie.Need-same-length-2 Inv-loop μ-loop
-same-length-2 c = search needs
-
-same-length-3 : tie.Need-same-length-3 Inv-loop μ-loop
-same-length-3 c = search needs
-
 returns : tie.Need-returns Inv-loop μ-loop
 returns c = search needs
 
@@ -51,12 +37,9 @@ pass-spec =
     Inv-loop
     μ-loop
     loop-holds
-    shared-slice-read-take
+    element-copy-out-take
     take-requires
     add-i
     loop-less
     loop-again
-    same-length
-    same-length-2
-    same-length-3
     returns)

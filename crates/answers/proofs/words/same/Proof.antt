@@ -1,7 +1,5 @@
 use Prim.Native.Nat.{_≤_, _-_}
 use lib.ListN.{length}
-use Prim.Native.Nat.{_≤_, _-_}
-use lib.ListN.{length}
 use borrow.Author.Needs.{needs}
 use Rattle.answers.proofs.words.same.Statement.{statement}
 use Rattle.answers.proofs.words.same.Tie as tie

@@ -3,8 +3,8 @@ use native.Mathlib.Omega.{arith}
 use lib.ListN.{length}
 use Rattle.unicode.proofs.Text.{decoded-fits, decoded-some}
 use borrow.Author.Needs.{needs}
-use Rattle.answers.proofs.tasks.characters.Statement.{statement}
-use Rattle.answers.proofs.tasks.characters.Tie as tie
+use Rattle.answers.proofs.texts.characters.Statement.{statement}
+use Rattle.answers.proofs.texts.characters.Tie as tie
 
 abbrev Inv-loop : tie.InvT-loop
 Inv-loop text count₀ at₀ count at = (at ≤ length text) × (count ≤ at)

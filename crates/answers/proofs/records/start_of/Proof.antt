@@ -1,7 +1,7 @@
 use Prim.Native.Nat.{_≤_, _-_, _*_}
 use borrow.Author.Needs.{needs}
-use Rattle.answers.proofs.bodies.start_of.Statement.{statement}
-use Rattle.answers.proofs.bodies.start_of.Tie as tie
+use Rattle.answers.proofs.records.start_of.Statement.{statement}
+use Rattle.answers.proofs.records.start_of.Tie as tie
 
 abbrev Inv-loop : tie.InvT-loop
 Inv-loop list index start₀ i₀ start i = (i ≤ index) × (start ≤ i * 4294967295)
