@@ -5,7 +5,7 @@ ghost use Rattle.letters.specs.Chars.{isWhitespace, isIdStart, isIdConti
 use unicode::properties::is_xid_continue;
 use unicode::properties::is_xid_start;
 
-// The bits 9 to 13 and 32 of a number: one test for all white space of ASCII, since a branch for each kind is guessed wrong where they mix.
+// The bits 9 to 13 and 32 of a number: one test for all white space of ASCII, and no branch for each kind.
 fn is_low_space(c: u32) -> bool
     requires { ⌜ c < 64 ⌝ }
     ensures { λ r. ⌜ r ≡ isWhitespace c ⌝ }

@@ -31,11 +31,11 @@ pub record Listed (s : List ℕ) (profile : ℕ) (list : List ℕ) (number also 
   pub answer : Answered (outcome s profile (length list)) number also
   pub words : list′ ≡ listed s profile list
 
--- the tokens from a place on, as many as there is room for; of a text that is too long, none
+-- the tokens from a place on, as many as there is room for; of a text of more than 4,294,967,295 bytes, none
 unfoldable pub run : Letters → ℕ → List ℕ → ℕ → ℕ → List Tok
 run u profile s from room = cond (ltb longest (length s)) [] (take room (tokens u profile (left s from)))
 
--- what `cut_run` answers and leaves: the place behind them, how many they are, and their words before what stood there
+-- what `cut_run` answers and leaves: the place behind them, how many they are; their words, and behind them what stood there
 pub record CutRun (u : Letters) (profile : ℕ) (s : List ℕ) (from : ℕ) (list : List ℕ) (at count : ℕ) (list′ : List ℕ) : Type 0 where
   pub reached : at ≡ from + total (run u profile s from (length list / 3))
   pub many : count ≡ length (run u profile s from (length list / 3))

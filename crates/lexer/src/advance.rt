@@ -25,7 +25,7 @@ use crate::words::pound;
 use letters::is_whitespace;
 use unicode::utf8::decode;
 
-// A token: its kind, the place where its suffix starts (its own start, where it has none), and its end.
+// A token: its kind, the place where its suffix starts (of a literal with none, its end; of all else, its own start), and its end.
 pub struct Piece {
     pub kind: u32,
     pub mark: usize,

@@ -1,4 +1,4 @@
-// The list of tokens of a whole text, three words for each.
+// The list of tokens of a whole text, or of a run of them from a place on, three words for each.
 ghost use mathlib.Core.Path.{_≡_};
 ghost use Prim.Native.Nat.{_+_, _≤_};
 ghost use lib.ListN.{length, set};
@@ -28,7 +28,8 @@ fn put(list: &mut [u32], k: usize, kind: u32, len: u32, suffix: u32)
     list[k + 2] = suffix;
 }
 
-// Fills the list with tokens from a place on, until it is full or the text ends. The one loop around the cutter, so that the cutter is compiled into it.
+// Fills the list with tokens from a place on, until it is full or the text ends. For `tokenize` and the key it is the one loop around the cutter, which
+// is so compiled into it.
 fn fill(
     text: &[u8],
     from: usize,
@@ -59,7 +60,7 @@ fn fill(
 }
 
 // The tokens of any bytes from a place on, as many as the list has room for, under any number as profile and over tables of the letters that are
-// lent; of a text that is too long, none.
+// lent. None of a text of more than 4,294,967,295 bytes, none at or past the end, none into fewer than three words: then the place is `from`.
 pub fn cut_run(
     text: &[u8],
     from: usize,

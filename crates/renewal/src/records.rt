@@ -4,6 +4,7 @@ ghost use mathlib.Core.List.{[], _∷_, _++_};
 ghost use Prim.Native.Nat.{_+_, _≤_, min};
 ghost use lib.ListN.{length, take, drop};
 ghost use Rattle.lists.specs.Put.{Put, PutIf};
+ghost use Rattle.text.specs.Answer.{longest};
 ghost use Rattle.renewal.specs.Key.{word, texts, held, encode};
 ghost use Rattle.renewal.specs.Steps.{sizeBy, member, entry, toks, entries, BodyFits, Writable, Ready, RunReady};
 use crate::table::NO_BODY;
@@ -48,6 +49,7 @@ fn put_four(key: &mut [u8], k: usize, part: &[u8], i: usize) -> usize
     k + 4
 }
 
+// One to three bytes.
 fn put_few(key: &mut [u8], k: usize, part: &[u8]) -> usize
     requires { ⌜ (1 ≤ length (now part)) × (length (now part) ≤ 3) × (k + length (now part) ≤ length (now key)) ⌝ }
     ensures { λ r. ⌜ Put (now (key .entry)) k (now (part .entry)) (now (key .exit)) r ⌝ }
@@ -64,7 +66,7 @@ fn put_few(key: &mut [u8], k: usize, part: &[u8]) -> usize
     k + 3
 }
 
-// One to sixteen bytes, with no loop: the first four or eight and the last, which may overlap.
+// One to sixteen bytes, with no loop: the first four or eight and the last four or eight, which may overlap.
 fn put_bytes(key: &mut [u8], k: usize, part: &[u8]) -> usize
     requires { ⌜ (1 ≤ length (now part)) × (length (now part) ≤ 16) × (k + length (now part) ≤ length (now key)) ⌝ }
     ensures { λ r. ⌜ Put (now (key .entry)) k (now (part .entry)) (now (key .exit)) r ⌝ }
@@ -133,7 +135,7 @@ fn put_record(key: &mut [u8], k: usize, kind: u32, body: u8, suffix: u32, text: 
 
 // How many bytes a record takes, by its body and the length of its text.
 fn record_size(body: u8, len: usize) -> usize
-    requires { ⌜ len ≤ 4294967295 ⌝ }
+    requires { ⌜ len ≤ longest ⌝ }
     ensures { λ r. ⌜ r ≡ sizeBy body len ⌝ }
 {
     if body == 0 {

@@ -1,4 +1,5 @@
--- A binary search in a list of numbers that are to be the ends of ranges in turn: what it answers on any list, sorted or not.
+-- A binary search in a list of numbers that are to be the low and the high end of each range in turn: what it answers on any list, sorted or not. Of
+-- an odd number of them the last is never asked.
 -- On a table's own list that is membership in the table (`proofs/Search.antt`).
 -- Assumes nothing.
 use mathlib.Core.Bool.{Bool, false, cond, _&&_}
@@ -8,11 +9,12 @@ use lib.Dec.{eqb, leb, ltb}
 use lib.ListN.{length, getD}
 use Rattle.unicode.specs.Ranges.{_to_, inRange}
 
--- so many ranges further on, where that one does not begin above c
+-- the range that stands `half` further on, where it does not begin above c, else the one at base
 abbrev pub later : List ℕ → ℕ → ℕ → ℕ → ℕ
 later t c base half = cond (leb (getD t (2 * (base + half)) 0) c) (base + half) base
 
--- n steps among so many ranges from base on: each leaves the later half or the earlier one
+-- n steps among so many ranges from base on: each leaves the later half or the earlier one; of an odd number both count the greater half, so that the
+-- earlier keeps one more than it need
 unfoldable pub narrowed : ℕ → List ℕ → ℕ → ℕ → ℕ → ℕ
 narrowed zero t c base size = base
 narrowed (suc n) t c base size = narrowed n t c (later t c base (size / 2)) (size - size / 2)

@@ -48,8 +48,8 @@ fn narrow(table: &[u32], c: u32, p: Part) -> Part
     Part { base: p.base, size }
 }
 
-// The last of at most 32 ranges that does not begin above c, or the first. Five steps written out compile to conditional moves; in a loop
-// each would be a jump that c decides.
+// Where the search ends among at most 32 ranges: on a table in order, at the last that does not begin above c, or at the first. Five steps written
+// out compile to conditional moves; in a loop each would be a jump that c decides.
 fn last_of(table: &[u32], c: u32, p: Part) -> usize
     requires { ⌜ (1 ≤ p .size) × (p .size ≤ 32) × (2 * (p .base + p .size) ≤ length (now table)) ⌝ }
     ensures { λ r. ⌜ r ≡ narrowed (p .size) (now (table .entry)) c (p .base) (p .size) ⌝ }
@@ -62,7 +62,7 @@ fn last_of(table: &[u32], c: u32, p: Part) -> usize
     p5.base
 }
 
-// Whether c lies in a range of the table: a binary search.
+// A binary search: on a table in order, whether c lies in one of its ranges.
 pub fn search(table: &[u32], c: u32) -> bool
     ensures { λ r. ⌜ r ≡ searched (now (table .entry)) c ⌝ }
 {
