@@ -1,4 +1,4 @@
--- One outcome of `tokenize`, of `cut_run`, and of `advance_token`, whose places are told by what is left at them.
+-- One outcome of `tokenize`, of `cut_run`, of `token_at`, and of `advance_token`, whose places are told by what is left at them.
 -- Assumes nothing.
 use Prim.Native.Nat.{ℕ, _≤_, _<_}
 use native.Mathlib.Omega.{arith}
@@ -12,7 +12,7 @@ use Rattle.unicode.specs.Text.{Place}
 use Rattle.unicode.proofs.Text.{between}
 use Rattle.lexer.specs.Cut.{Letters}
 use Rattle.lexer.specs.Steps.{Cuts, Advanced}
-use Rattle.lexer.specs.Outcome.{Listed, CutRun}
+use Rattle.lexer.specs.Outcome.{Listed, CutRun, TokenAt}
 
 -- two calls with the same text, profile and list answer the same and leave the same
 pub listed-unique : {s : List ℕ} {profile : ℕ} {list : List ℕ} {n a m b : ℕ} {l k : List ℕ} → Listed s profile list n a l → Listed s profile list m b k → (n ≡ m) × (a ≡ b) × (l ≡ k)
@@ -21,6 +21,9 @@ listed-unique p q =
 
 pub cut-run-unique : {u : Letters} {profile from : ℕ} {s list l k : List ℕ} {at n at′ n′ : ℕ} → CutRun u profile s from list at n l → CutRun u profile s from list at′ n′ k → (at ≡ at′) × (n ≡ n′) × (l ≡ k)
 cut-run-unique p q = (p .reached ∙ sym (q .reached), p .many ∙ sym (q .many), p .words ∙ sym (q .words))
+
+pub token-at-unique : {u : Letters} {profile at : ℕ} {s : List ℕ} {k m e k′ m′ e′ : ℕ} → TokenAt u profile s at k m e → TokenAt u profile s at k′ m′ e′ → (k ≡ k′) × (m ≡ m′) × (e ≡ e′)
+token-at-unique p q = (p .what ∙ sym (q .what), p .start ∙ sym (q .start), p .place ∙ sym (q .place))
 
 -- what is left tells the place
 pub place-unique : {s : List ℕ} {low at at′ : ℕ} {l : List ℕ} → low ≤ length s → Place s low at l → Place s low at′ l → at ≡ at′

@@ -1,26 +1,28 @@
 -- The tokens of a text: runs of them, how many there are, and the answer.
 -- Assumes nothing.
-use Prim.Native.Nat.{ℕ, suc, _+_, _-_, _*_, _/_, _≤_, _<_}
+use Prim.Native.Nat.{ℕ, suc, _+_, _-_, _*_, _/_, _≤_, _<_, max}
+use native.Mathlib.Decide.{decLt}
 use native.Mathlib.Omega.{arith}
 use native.Mathlib.Numerals.{add-one, add-two}
 use mathlib.Core.Path.{_≡_, refl, ap, sym, _∙_}
 use mathlib.Core.Bool.{true, false}
-use mathlib.Core.List.{List, [], _∷_}
-use lib.ListN.{length, drop, set, length-set, length-take, length-drop, drop-of-length-le}
+use mathlib.Core.List.{List, [], _∷_, _++_}
+use lib.ListN.{length, drop, set, getD, length-set, length-take, length-drop, drop-of-length-le}
 use lib.Seq.{sets, take-all, take-nil}
-use lib.Dec.{eqb}
+use lib.Dec.{eqb, ltb}
 use borrow.Author.Tests.{lt-ltb, le-ltb, eq-eqb, ne-eqb}
+use Rattle.lists.proofs.Bools.{by-test}
 use Rattle.lists.proofs.Cut.{cut-few}
 use Rattle.lists.proofs.Store.{stored-front}
 use Rattle.unicode.specs.Utf8.{next, chars}
 use Rattle.unicode.specs.Text.{bytes, left}
-use Rattle.unicode.proofs.Text.{point-at, left-end, between}
+use Rattle.unicode.proofs.Text.{point-at, left-end, between, bytes-chars}
 use Rattle.text.specs.Answer.{Answered, done, roomTooSmall, longest, checkCut}
 use Rattle.text.proofs.Checks.{cut-accepted}
 use Rattle.lexer.specs.Cut.{Letters, Tok, token, piece, tokens, flat, total}
 use Rattle.lexer.specs.Unicode.{unicode}
 use Rattle.lexer.specs.Steps.{Cuts, Advanced, runFrom, Filled, Stored}
-use Rattle.lexer.specs.Outcome.{tokensOf, outcome, listed, Listed, run, CutRun}
+use Rattle.lexer.specs.Outcome.{tokensOf, outcome, listed, Listed, run, CutRun, front, TokenAt}
 use Rattle.lexer.proofs.Shapes.{tokens-nil, tokens-cons}
 
 -- three words for each token
@@ -206,3 +208,48 @@ listed-done {s} {list} {list′} {profile} c z r =
 
 pub cut-short : (s : List ℕ) (profile : ℕ) {n a : ℕ} → Answered (checkCut s profile) n a → n ≡ done → length s ≤ longest
 cut-short s profile c z = cut-accepted s profile (sym (c .number-is) ∙ z) .1 .short
+
+-- ---- a run of one token
+-- the words of at most one token, before three noughts
+one-words : (l : List Tok) → length l ≤ 1 → {list : List ℕ} → list ≡ flat l ++ drop (length (flat l)) (0 ∷ 0 ∷ 0 ∷ []) → (getD list 0 0 ≡ front l .kind) × (getD list 2 0 ≡ front l .suff) × (total l ≡ front l .len)
+unfolding flat front
+one-words [] h e = (ap (λ (l : List ℕ). getD l 0 0) e, ap (λ (l : List ℕ). getD l 2 0) e, refl)
+one-words (t ∷ []) h e = (ap (λ (l : List ℕ). getD l 0 0) e, ap (λ (l : List ℕ). getD l 2 0) e, omega arith)
+one-words (t ∷ t′ ∷ ts) h e = absurd (omega arith)
+
+module _ (u : Letters) (profile : ℕ) (s : List ℕ) (at : ℕ) where
+  abbrev one : List Tok
+  one = run u profile s at 1
+
+  one-few : length one ≤ 1
+  unfolding run
+  one-few = by-test (ltb longest (length s)) (λ t. rw t (omega arith)) (λ t. rw t (omega (arith, length-take 1 (tokens u profile (left s at)))))
+
+  -- a token stands within its text
+  pub one-within : (at + front one .suff ≤ max at (length s)) × (at + front one .len ≤ max at (length s))
+  unfolding run front
+  one-within =
+      by-test (ltb longest (length s))
+      (λ t. rw t (omega arith, omega arith))
+      (λ t.
+      elim (decLt at (length s)) [
+        | yes h ↦ let c = point-at s at h in rw (t, c .view, tokens-step u profile) (omega (arith, ap bytes (c .view), bytes-chars (drop at s), length-drop at s), omega (arith, ap bytes (c .view), bytes-chars (drop at s), length-drop at s))
+        | no n ↦ rw (t, left-end s at (omega arith), tokens-nil u profile) (omega arith, omega arith)
+      ])
+
+module _ {u : Letters} {profile : ℕ} {s list′ : List ℕ} {at end count : ℕ} (r : CutRun u profile s at (0 ∷ 0 ∷ 0 ∷ []) end count list′) where
+  pub one-suffix : at + getD list′ 2 0 ≤ max at (length s)
+  one-suffix = omega (arith, one-within u profile s at .0, one-words (one u profile s at) (one-few u profile s at) (r .words) .1)
+
+  pub one-token : {kind mark end′ : ℕ} → kind ≡ getD list′ 0 0 → mark ≡ at + getD list′ 2 0 → end′ ≡ end → TokenAt u profile s at kind mark end′
+  one-token k m e =
+      let w = one-words (one u profile s at) (one-few u profile s at) (r .words) in
+      record { what = k ∙ w .0; start = m ∙ ap (λ (n : ℕ). at + n) (w .1); place = e ∙ r .reached ∙ ap (λ (n : ℕ). at + n) (w .2) }
+
+-- a place of the token is at or behind its start, and within the text
+module _ {u : Letters} {profile : ℕ} {s : List ℕ} {at kind mark end : ℕ} (a : TokenAt u profile s at kind mark end) where
+  pub one-mark : (at ≤ mark) × (mark ≤ max at (length s))
+  one-mark = (omega (arith, a .start), omega (arith, a .start, one-within u profile s at .0))
+
+  pub one-end : (at ≤ end) × (end ≤ max at (length s))
+  one-end = (omega (arith, a .place), omega (arith, a .place, one-within u profile s at .1))

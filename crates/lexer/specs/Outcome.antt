@@ -1,15 +1,16 @@
--- What `tokenize` answers, and what it leaves in the list that it was lent; what `cut_run` does; and what `is_ident` answers.
+-- What `tokenize` answers, and what it leaves in the list that it was lent; what `cut_run` and `token_at` do; and what `is_ident` answers.
 -- Assumes nothing.
 use Prim.Native.Nat.{ℕ, _+_, _/_}
 use mathlib.Core.Path.{_≡_}
 use mathlib.Core.Bool.{cond}
-use mathlib.Core.List.{List, [], _++_}
+use mathlib.Core.List.{List, [], _∷_, _++_}
 use lib.Dec.{eqb, ltb}
 use lib.ListN.{length, take, drop}
 use Rattle.unicode.specs.Utf8.{chars}
 use Rattle.unicode.specs.Text.{left}
 use Rattle.text.specs.Answer.{Answered, done, longest, checkText, checkCut, checkRoom, _andThen_}
 use Rattle.letters.specs.Chars.{isIdent}
+use Rattle.lexer.specs.Kinds.{eof}
 use Rattle.lexer.specs.Cut.{Letters, Tok, tokens, flat, total}
 use Rattle.lexer.specs.Unicode.{unicode}
 
@@ -40,6 +41,17 @@ pub record CutRun (u : Letters) (profile : ℕ) (s : List ℕ) (from : ℕ) (lis
   pub reached : at ≡ from + total (run u profile s from (length list / 3))
   pub many : count ≡ length (run u profile s from (length list / 3))
   pub words : list′ ≡ flat (run u profile s from (length list / 3)) ++ drop (length (flat (run u profile s from (length list / 3)))) list
+
+-- the first of some tokens; of none, the end of the text, of no length
+unfoldable pub front : List Tok → Tok
+front [] = record { kind = eof; len = 0; suff = 0 }
+front (t ∷ ts) = t
+
+-- what `token_at` answers: the token at a place, by a run of one; where its suffix starts, and where it ends
+pub record TokenAt (u : Letters) (profile : ℕ) (s : List ℕ) (at kind mark end : ℕ) : Type 0 where
+  pub what : kind ≡ front (run u profile s at 1) .kind
+  pub start : mark ≡ at + front (run u profile s at 1) .suff
+  pub place : end ≡ at + front (run u profile s at 1) .len
 
 -- whether a text is an identifier: 1 for yes, 0 for no
 unfoldable pub identified : List ℕ → ℕ × ℕ

@@ -26,6 +26,7 @@ use letters::is_whitespace;
 use unicode::utf8::decode;
 
 // A token: its kind, the place where its suffix starts (of a literal with none, its end; of all else, its own start), and its end.
+#[repr(C)]
 pub struct Piece {
     pub kind: u32,
     pub mark: usize,

@@ -6,7 +6,7 @@ ghost use Rattle.letters.specs.Chars.{identBy, isIdent};
 ghost use Rattle.lexer.specs.Unicode.{startIn, moreIn};
 ghost use Rattle.lexer.specs.Outcome.{identified};
 
-pub mod advance;
+mod advance;
 mod comments;
 mod cursor;
 mod kinds;

@@ -7,7 +7,8 @@ ghost use Rattle.text.specs.Answer.{longest};
 ghost use Rattle.lexer.specs.Cut.{tokens};
 ghost use Rattle.lexer.specs.Unicode.{lent, unicode};
 ghost use Rattle.lexer.specs.Steps.{Filled, Stored};
-ghost use Rattle.lexer.specs.Outcome.{Listed, CutRun};
+ghost use Rattle.lexer.specs.Outcome.{Listed, CutRun, TokenAt};
+pub use crate::advance::Piece;
 use crate::advance::advance_token;
 use text::Answer;
 use text::check_cut;
@@ -28,8 +29,8 @@ fn put(list: &mut [u32], k: usize, kind: u32, len: u32, suffix: u32)
     list[k + 2] = suffix;
 }
 
-// Fills the list with tokens from a place on, until it is full or the text ends. For `tokenize` and the key it is the one loop around the cutter, which
-// is so compiled into it.
+// Fills the list with tokens from a place on, until it is full or the text ends. It is the one loop around the cutter, which is so
+// compiled into it.
 fn fill(
     text: &[u8],
     from: usize,
@@ -79,6 +80,26 @@ pub fn cut_run(
     Run {
         at: r.at,
         count: r.count,
+    }
+}
+
+// The token at a place, by a run of one: where `cut_run` gives none, kind 0 and no length.
+pub fn token_at(
+    text: &[u8],
+    at: usize,
+    profile: u32,
+    start: &[u32],
+    more: &[u32],
+    emoji: &[u32],
+) -> Piece
+    ensures { λ r. ⌜ TokenAt (lent (now (start .entry)) (now (more .entry)) (now (emoji .entry))) profile (now (text .entry)) at (r .kind) (r .mark) (r .end) ⌝ }
+{
+    let mut words = [0u32; 3];
+    let r = cut_run(text, at, profile, &mut words, start, more, emoji);
+    Piece {
+        kind: words[0],
+        mark: at + words[2] as usize,
+        end: r.at,
     }
 }
 

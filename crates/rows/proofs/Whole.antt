@@ -2,41 +2,47 @@
 -- Assumes nothing.
 use Prim.Native.Nat.{ℕ, _-_, _*_, _/_, _≤_, _<_}
 use native.Mathlib.Omega.{arith}
-use mathlib.Core.Path.{_≡_, sym, _∙_, subst}
+use mathlib.Core.Path.{_≡_, refl, sym, _∙_, subst}
 use mathlib.Core.Bool.{true, false, cond}
 use mathlib.Core.List.{List, [], _∷_}
 use lib.Dec.{ltb, eqb}
-use lib.ListN.{length}
+use lib.ListN.{length, take}
 use borrow.Author.Tests.{ltb-true, ltb-false, lt-ltb, le-ltb, eqb-true, eqb-false, eq-eqb, ne-eqb}
 use Rattle.lists.proofs.Bools.{by-test}
 use Rattle.unicode.specs.Utf8.{chars, validUpTo}
+use Rattle.unicode.specs.Text.{left}
 use Rattle.unicode.specs.Ranges.{flat}
 use Rattle.unicode.specs.Ucd.{xidStart, xidContinue, emoji}
 use Rattle.text.specs.Answer.{Answered, done, roomTooSmall, longest, checkText, checkCut, knownProfile}
 use Rattle.text.proofs.Checks.{cut-accepted}
-use Rattle.lexer.specs.Cut.{Letters, tokens}
+use Rattle.lexer.specs.Cut.{Letters, Tok, tokens}
 use Rattle.lexer.specs.Unicode.{unicode, lent}
-use Rattle.lexer.specs.Steps.{Advanced}
-use Rattle.lexer.specs.Outcome.{tokensOf, outcome, Listed}
+use Rattle.lexer.specs.Outcome.{tokensOf, outcome, Listed, run, front, TokenAt}
 use Rattle.lexer.proofs.Unicode.{lent-is}
-use Rattle.lexer.proofs.Whole.{tokens-at, few-tokens}
-use Rattle.rows.specs.Rows.{records, rowed, Rowed}
+use Rattle.lexer.proofs.Whole.{few-tokens}
+use Rattle.rows.specs.Rows.{recordOf, records, rowed, Rowed}
 use Rattle.rows.specs.Steps.{firstOf, recordAt, Judged, Filled}
 use Rattle.rows.specs.declared.Token.{Token}
 use Rattle.rows.proofs.Filling.{length-records, none-left}
 
--- what `advance_token` says, as a record
-pub token-at : {u : Letters} {profile : ℕ} {s : List ℕ} {at kind mark end : ℕ} → Advanced u profile s at kind mark end →
+of-first : (l : List Tok) → recordOf (front (take 1 l)) ≡ firstOf l
+unfolding front firstOf
+of-first [] = refl
+of-first (t ∷ ts) = refl
+
+-- the first of a run of one
+first-run : (u : Letters) (profile : ℕ) (s : List ℕ) (at : ℕ) → length s ≤ longest → recordOf (front (run u profile s at 1)) ≡ recordAt u profile s at
+unfolding run front firstOf
+first-run u profile s at short = rw (le-ltb longest (length s) short) (of-first (tokens u profile (left s at)))
+
+-- what `token_at` says, as a record
+pub token-at : {u : Letters} {profile : ℕ} {s : List ℕ} {at kind mark end : ℕ} → length s ≤ longest → TokenAt u profile s at kind mark end →
     _≡_ {A = Token} (record { kind = kind; len = end - at; suffix = mark - at }) (recordAt u profile s at)
-unfolding firstOf
-token-at {u} {profile} {s} {at} {kind} {mark} {end} a =
-    by-test (ltb at (length s))
-    (λ t. rw (tokens-at u profile (ltb-true at (length s) t) (a .before-end (ltb-true at (length s) t))))
-    (λ t.
-    let e = a .at-end (ltb-false at (length s) t) in
-    let z : end - at ≡ 0 = omega (arith, e .2) in
-    let y : mark - at ≡ 0 = omega (arith, e .1) in
-    rw (none-left u profile s at (ltb-false at (length s) t), z, y, e .0))
+token-at {u} {profile} {s} {at} {kind} {mark} {end} short a =
+    let t = front (run u profile s at 1) in
+    let l : end - at ≡ t .len = omega (arith, a .place) in
+    let m : mark - at ≡ t .suff = omega (arith, a .start) in
+    rw (a .what, l, m) (first-run u profile s at short)
 
 -- ---- the checks
 -- of these no refusal is 4

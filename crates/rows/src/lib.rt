@@ -12,7 +12,7 @@ ghost use Rattle.lexer.specs.Cut.{tokens};
 ghost use Rattle.lexer.specs.Unicode.{lent};
 ghost use Rattle.rows.specs.Rows.{Rowed, Bridged};
 ghost use Rattle.rows.specs.Steps.{Judged, recordAt, Filled};
-use lexer::advance::advance_token;
+use lexer::list::token_at;
 use lexer::list::tokenize;
 use text::Answer;
 use text::check_cut;
@@ -60,7 +60,7 @@ fn token_from<'a, 't>(
     requires { ⌜ length (now text) ≤ longest ⌝ }
     ensures { λ r. ⌜ r ≡ recordAt (lent (now (start .entry)) (now (more .entry)) (now (emoji .entry))) profile (now (text .entry)) at ⌝ }
 {
-    let t = advance_token(text, at, profile, start, more, emoji);
+    let t = token_at(text, at, profile, start, more, emoji);
     Token {
         kind: t.kind,
         len: (t.end - at) as u32,

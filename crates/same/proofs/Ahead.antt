@@ -2,16 +2,19 @@
 -- Assumes nothing.
 use Prim.Native.Nat.{ℕ, _+_, _-_, _≤_, _<_}
 use native.Mathlib.Omega.{arith}
-use mathlib.Core.Path.{_≡_, refl, sym, _∙_}
+use mathlib.Core.Path.{_≡_, refl, ap, sym, _∙_}
 use mathlib.Core.Bool.{Bool, true, false}
 use mathlib.Core.List.{List, [], _∷_}
-use lib.ListN.{length, drop, drop-of-length-le}
+use lib.ListN.{length, drop, length-drop, drop-of-length-le}
 use lib.Seq.{drop-drop}
+use borrow.Author.Tests.{le-ltb}
+use Rattle.text.specs.Answer.{longest}
 use Rattle.lexer.specs.Kinds.{eof}
 use Rattle.lexer.specs.Cut.{Letters, Tok}
-use Rattle.lexer.specs.Steps.{Advanced}
-use Rattle.lexer.proofs.Whole.{tokens-at}
+use Rattle.lexer.specs.Outcome.{run, front, TokenAt}
+use Rattle.lexer.proofs.Whole.{one-mark, one-end}
 use Rattle.tokens.specs.Members.{isCounted, memberOf, counted, membersBy}
+use Rattle.renewal.specs.Rules.{First, Cutter}
 use Rattle.renewal.specs.Steps.{cutBy}
 use Rattle.renewal.proofs.Cutter.{cutter}
 use Rattle.same.specs.Compare.{sights}
@@ -36,21 +39,47 @@ module _ (t : Tok) (ts : List Tok) where
   sights-no at e = rw (e, sights)
 
 -- ---- the token at a place
-module _ {u : Letters} {profile : ℕ} {s : List ℕ} {at kind mark end : ℕ} (h : at < length s) (a : Advanced u profile s at kind mark end) where
+same-token : (t : Tok) {k l m : ℕ} → k ≡ t .kind → l ≡ t .len → m ≡ t .suff → _≡_ {A = Tok} (record { kind = k; len = l; suff = m }) t
+same-token t e f g = rw (e, f, g)
+
+first-of : {cut : List ℕ → List Tok} → Cutter cut → (s : List ℕ) → 1 ≤ length s → First cut s
+first-of c [] h = absurd (omega arith)
+first-of c (a ∷ s) h = c .first a s
+
+module _ {u : Letters} {profile : ℕ} {s : List ℕ} {at kind mark end : ℕ} (short : length s ≤ longest) (h : at < length s) (a : TokenAt u profile s at kind mark end) where
   abbrev tok : Tok
   tok = record { kind = kind; len = end - at; suff = mark - at }
 
   abbrev cut : List ℕ → List Tok
   cut = cutBy u profile
 
-  view : cut (drop at s) ≡ tok ∷ cut (drop end s)
-  view = tokens-at u profile h (a .before-end h)
+  here : First cut (drop at s)
+  here = first-of (cutter u profile) (drop at s) (omega (arith, length-drop at s))
+
+  here-is : front (run u profile s at 1) ≡ here .token
+  unfolding run front
+  here-is = rw (le-ltb longest (length s) short, here .view)
+
+  tok-is : tok ≡ here .token
+  tok-is =
+      let l : end - at ≡ here .token .len = omega (arith, a .place, ap (λ (t : Tok). t .len) here-is) in
+      let m : mark - at ≡ here .token .suff = omega (arith, a .start, ap (λ (t : Tok). t .suff) here-is) in
+      same-token (here .token) (a .what ∙ ap (λ (t : Tok). t .kind) here-is) l m
 
   reach : at + (end - at) ≡ end
-  reach = omega (arith, a .before-end h .some)
+  reach = omega (arith, a .place)
 
   far : drop (end - at) (drop at s) ≡ drop end s
   far = drop-drop (end - at) at s ∙ rw reach
+
+  view : cut (drop at s) ≡ tok ∷ cut (drop end s)
+  view = here .view ∙ rw (← tok-is) (ap (λ (l : List ℕ). tok ∷ cut l) far)
+
+  pub token-some : at < end
+  token-some = omega (arith, here .some, ap (λ (t : Tok). t .len) tok-is)
+
+  within : end ≤ length s
+  within = omega (arith, one-end a .1)
 
   members-yes : isCounted kind ≡ true → membersFrom cut s at ≡ memberAt s kind at mark end ∷ membersFrom cut s end
   unfolding membersBy
@@ -76,27 +105,25 @@ pub record Seeking (cut : List ℕ → List Tok) (s : List ℕ) (from at : ℕ) 
 pub seeking-none : (cut : List ℕ → List Tok) (s : List ℕ) (from : ℕ) → from ≤ length s → Seeking cut s from from
 seeking-none cut s from h = record { after = omega arith; within = h; members = refl; seen = refl }
 
-module _ {u : Letters} {profile : ℕ} {s : List ℕ} {from at kind mark end : ℕ} (w : Seeking (cutBy u profile) s from at) (h : at < length s) (a : Advanced u profile s at kind mark end) where
+module _ {u : Letters} {profile : ℕ} {s : List ℕ} {from at kind mark end : ℕ} (w : Seeking (cutBy u profile) s from at) (short : length s ≤ longest) (h : at < length s) (a : TokenAt u profile s at kind mark end) where
   pub seeking-found : {b : Bool} → b ≡ isCounted kind → b ≡ true → Ahead (cutBy u profile) s from kind at mark end
   seeking-found b e =
-      let k = a .before-end h in
       let c : isCounted kind ≡ true = sym b ∙ e in
       record {
-        place = record { before-mark = k .start .after; before-end = omega (arith, k .some); within = k .place .within };
+        place = record { before-mark = one-mark a .0; before-end = one-end a .0; within = within short h a };
         after = w .after;
-        none = λ z. absurd (omega (arith, k .some));
-        some = λ z. (w .members ∙ members-yes h a c, w .seen ∙ seen-yes h a c);
+        none = λ z. absurd (omega (arith, token-some short h a));
+        some = λ z. (w .members ∙ members-yes short h a c, w .seen ∙ seen-yes short h a c);
       }
 
   pub seeking-on : {b : Bool} → b ≡ isCounted kind → b ≡ false → Seeking (cutBy u profile) s from end
   seeking-on b e =
-      let k = a .before-end h in
       let c : isCounted kind ≡ false = sym b ∙ e in
       record {
-        after = omega (arith, w .after, k .some);
-        within = k .place .within;
-        members = w .members ∙ members-no h a c;
-        seen = w .seen ∙ seen-no h a c;
+        after = omega (arith, w .after, token-some short h a);
+        within = within short h a;
+        members = w .members ∙ members-no short h a c;
+        seen = w .seen ∙ seen-no short h a c;
       }
 
 pub seeking-end : (u : Letters) (profile : ℕ) {s : List ℕ} {from at : ℕ} → Seeking (cutBy u profile) s from at → length s ≤ at → Ahead (cutBy u profile) s from eof at at at

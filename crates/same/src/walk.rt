@@ -2,6 +2,7 @@
 ghost use mathlib.Core.Path.{_≡_};
 ghost use Prim.Native.Nat.{_≤_};
 ghost use lib.ListN.{length};
+ghost use Rattle.text.specs.Answer.{longest};
 ghost use Rattle.lexer.specs.Unicode.{lent};
 ghost use Rattle.lexer.specs.Outcome.{tokensOf};
 ghost use Rattle.tokens.specs.Members.{isCounted};
@@ -12,7 +13,7 @@ use crate::Comparison;
 use crate::DIFFERENT;
 use crate::SAME;
 use crate::Sight;
-use lexer::advance::advance_token;
+use lexer::list::token_at;
 use text::Answer;
 use unicode::tables;
 
@@ -61,12 +62,12 @@ fn next_counted(
     more: &[u32],
     emoji: &[u32],
 ) -> Found
-    requires { ⌜ from ≤ length (now text) ⌝ }
+    requires { ⌜ (from ≤ length (now text)) × (length (now text) ≤ longest) ⌝ }
     ensures { λ r. ⌜ Ahead (cutBy (lent (now (start .entry)) (now (more .entry)) (now (emoji .entry))) profile) (now (text .entry)) from (r .kind) (r .start) (r .mark) (r .end) ⌝ }
 {
     let mut at = from;
     while at < text.len() {
-        let t = advance_token(text, at, profile, start, more, emoji);
+        let t = token_at(text, at, profile, start, more, emoji);
         if is_counted(t.kind) {
             return Found {
                 kind: t.kind,
@@ -135,6 +136,7 @@ fn part(
     more: &[u32],
     emoji: &[u32],
 ) -> Comparison
+    requires { ⌜ (length (now old) ≤ longest) × (length (now new) ≤ longest) ⌝ }
     ensures { λ r. ⌜ Compared (partedBy (cutBy (lent (now (start .entry)) (now (more .entry)) (now (emoji .entry))) profile) (now (old .entry)) (now (new .entry))) (r .verdict) (r .refusal .number) (r .refusal .also) (r .agreed) (r .old .kind) (r .old .start) (r .old .len) (r .new .kind) (r .new .start) (r .new .len) ⌝ }
 {
     let mut a: usize = 0;
@@ -157,6 +159,7 @@ fn part(
 
 // Lends the tables, once for both texts.
 pub fn lend(old: &[u8], new: &[u8], profile: u32) -> Comparison
+    requires { ⌜ (length (now old) ≤ longest) × (length (now new) ≤ longest) ⌝ }
     ensures { λ r. ⌜ Compared (partedBy (tokensOf profile) (now (old .entry)) (now (new .entry))) (r .verdict) (r .refusal .number) (r .refusal .also) (r .agreed) (r .old .kind) (r .old .start) (r .old .len) (r .new .kind) (r .new .start) (r .new .len) ⌝ }
 {
     part(

@@ -1,3 +1,4 @@
+use Rattle.lexer.proofs.Whole.{cut-short}
 use Rattle.same.proofs.Whole.{ways}
 use borrow.Author.Needs.{needs}
 use Rattle.same.proofs.compare.Statement.{statement}
@@ -22,7 +23,7 @@ returns-2 : tie.Need-returns-2
 returns-2 c = search (needs, ways)
 
 lend-requires : tie.Need-lend-requires
-lend-requires c κs = search needs
+lend-requires c κs = (cut-short _ _ (c .before .before .before .before .before .check-cut .ensures) (c .before .before .before .if1 .left), cut-short _ _ (c .before .before .check-cut2 .ensures) (c .if2 .left))
 
 returns-3 : tie.Need-returns-3
 returns-3 c = search (needs, ways)

@@ -2,9 +2,8 @@ use Prim.Native.Nat.{_-_}
 use native.Mathlib.Omega.{arith}
 use lib.ListN.{length}
 use Rattle.lexer.specs.Unicode.{lent}
-use Rattle.lexer.proofs.Advancing.{end-some}
 use Rattle.renewal.specs.Steps.{cutBy}
-use Rattle.same.proofs.Ahead.{Seeking, seeking}
+use Rattle.same.proofs.Ahead.{Seeking, seeking, token-some}
 use borrow.Author.Needs.{needs}
 use Rattle.same.proofs.walk.next_counted.Statement.{statement}
 use Rattle.same.proofs.walk.next_counted.Tie as tie
@@ -18,8 +17,8 @@ abbrev μ-loop : tie.MeasureT-loop
 loop-holds : tie.Need-loop-holds Inv-loop μ-loop
 loop-holds c = search (needs, seeking)
 
-advance-token-requires : tie.Need-advance-token-requires Inv-loop μ-loop
-advance-token-requires c κs = search needs
+token-at-requires : tie.Need-token-at-requires Inv-loop μ-loop
+token-at-requires c κs = search needs
 
 is-counted-requires : tie.Need-is-counted-requires Inv-loop μ-loop
 is-counted-requires c κs = search needs
@@ -28,7 +27,7 @@ returns : tie.Need-returns Inv-loop μ-loop
 returns c = search (needs, seeking)
 
 loop-less : tie.Need-loop-less Inv-loop μ-loop
-loop-less c = omega (arith, end-some)
+loop-less c = omega (arith, token-some (c .before .before .before .before .before .before .before .before .before .pre .1) (c .before .before .before .loop-test .taken) (c .before .before .token-at .ensures))
 
 loop-again : tie.Need-loop-again Inv-loop μ-loop
 loop-again c = search (needs, seeking)
@@ -43,7 +42,7 @@ next-counted-spec =
     Inv-loop
     μ-loop
     loop-holds
-    advance-token-requires
+    token-at-requires
     is-counted-requires
     returns
     loop-less
