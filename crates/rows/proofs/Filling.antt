@@ -17,8 +17,9 @@ use Rattle.lexer.specs.Cut.{Letters, Tok, piece, tokens, total}
 use Rattle.lexer.proofs.Shapes.{tokens-nil}
 use Rattle.tokens.proofs.First.{tokens-first}
 use Rattle.tokens.proofs.Tiling.{tiles-chars}
-use Rattle.rows.specs.Rows.{recordOf, records}
-use Rattle.rows.specs.Steps.{firstOf, recordAt, placeAfter, recordNo, rowAfter, Filled}
+use Rattle.rows.specs.Rows.{records}
+use Rattle.lexer.specs.Outcome.{front}
+use Rattle.rows.specs.Steps.{recordAt, placeAfter, recordNo, rowAfter, Filled}
 use Rattle.rows.specs.declared.Token.{Token}
 
 pub length-records : (ts : List Tok) → length (records ts) ≡ length ts
@@ -32,20 +33,20 @@ module _ (u : Letters) (profile : ℕ) (s : List ℕ) where
 
   -- the token at a place before the end
   record Stepped (at : ℕ) : Type 0 where
-    pub front : Tok
-    pub first-is : recordAt u profile s at ≡ recordOf front
-    pub tokens-are : from at ≡ front ∷ from (at + front .len)
-    pub within : at + front .len ≤ length s
+    pub token : Tok
+    pub first-is : front (from at) ≡ token
+    pub tokens-are : from at ≡ token ∷ from (at + token .len)
+    pub within : at + token .len ≤ length s
 
   stepped : (at : ℕ) → at < length s → Stepped at
-  unfolding firstOf
+  unfolding front
   stepped at h =
       let c = point-at s at h in
       let p = piece u profile _ _ .0 in
       let e : from at ≡ p ∷ tokens u profile (chars (drop (p .len) (drop at s))) = tokens-first u profile _ _ (drop at s) (c .view) in
       let f : from at ≡ p ∷ from (at + p .len) = e ∙ rw drop-drop in
       record {
-        front = p;
+        token = p;
         first-is = rw f;
         tokens-are = f;
         within = omega (arith, ap total f, tiles-chars u profile (left s at) .all, bytes-chars (drop at s), length-drop at s);
@@ -66,9 +67,9 @@ module _ (u : Letters) (profile : ℕ) (s : List ℕ) where
   filling-on row i f h =
       let at = placeAfter u profile s i in
       let d = stepped at h in
-      let e : from at ≡ d .front ∷ from (at + recordAt u profile s at .len) = d .tokens-are ∙ rw (d .first-is) in
+      let e : from at ≡ d .token ∷ from (at + recordAt u profile s at .len) = d .tokens-are ∙ rw (d .first-is) in
       record {
-        within = omega (arith, d .within, ap (λ (r : Token). r .len) (d .first-is));
+        within = omega (arith, d .within, ap (λ (t : Tok). t .len) (d .first-is));
         count = omega (arith, f .count, ap length e);
         same = (rw (d .first-is) (ap (λ (ts : List Tok). sets (rowAfter u profile s row i) i (records ts)) (sym (d .tokens-are)))) ∙ f .same;
       }

@@ -21,19 +21,19 @@ use Rattle.lexer.specs.Outcome.{tokensOf, outcome, Listed, run, front, TokenAt}
 use Rattle.lexer.proofs.Unicode.{lent-is}
 use Rattle.lexer.proofs.Whole.{few-tokens}
 use Rattle.rows.specs.Rows.{recordOf, records, rowed, Rowed}
-use Rattle.rows.specs.Steps.{firstOf, recordAt, Judged, Filled}
+use Rattle.rows.specs.Steps.{recordAt, Judged, Filled}
 use Rattle.rows.specs.declared.Token.{Token}
 use Rattle.rows.proofs.Filling.{length-records, none-left}
 
-of-first : (l : List Tok) → recordOf (front (take 1 l)) ≡ firstOf l
-unfolding front firstOf
-of-first [] = refl
-of-first (t ∷ ts) = refl
+front-one : (l : List Tok) → front (take 1 l) ≡ front l
+unfolding front
+front-one [] = refl
+front-one (t ∷ ts) = refl
 
 -- the first of a run of one
 first-run : (u : Letters) (profile : ℕ) (s : List ℕ) (at : ℕ) → length s ≤ longest → recordOf (front (run u profile s at 1)) ≡ recordAt u profile s at
-unfolding run front firstOf
-first-run u profile s at short = rw (le-ltb longest (length s) short) (of-first (tokens u profile (left s at)))
+unfolding run
+first-run u profile s at short = rw (le-ltb longest (length s) short, front-one (tokens u profile (left s at)))
 
 -- what `token_at` says, as a record
 pub token-at : {u : Letters} {profile : ℕ} {s : List ℕ} {at kind mark end : ℕ} → length s ≤ longest → TokenAt u profile s at kind mark end →

@@ -2,13 +2,13 @@
 -- Assumes nothing.
 use Prim.Native.Nat.{ℕ, zero, suc, _+_, _*_}
 use mathlib.Core.Path.{_≡_}
-use mathlib.Core.List.{List, [], _∷_, _++_}
+use mathlib.Core.List.{List, _++_}
 use lib.ListN.{length, drop, set}
 use Rattle.unicode.specs.Utf8.{chars}
 use Rattle.unicode.specs.Text.{left}
 use Rattle.text.specs.Answer.{done}
-use Rattle.lexer.specs.Cut.{Tok, Letters, tokens}
-use Rattle.lexer.specs.Outcome.{outcome}
+use Rattle.lexer.specs.Cut.{Letters, tokens}
+use Rattle.lexer.specs.Outcome.{outcome, front}
 use Rattle.rows.specs.Rows.{recordOf, records}
 use Rattle.rows.specs.declared.Token.{Token}
 
@@ -17,14 +17,9 @@ pub record Judged (s : List ℕ) (profile room number also : ℕ) : Type 0 where
   pub number-is : number ≡ outcome s profile (3 * room) .0
   pub also-is : ((number ≡ done → ⊥) → also ≡ outcome s profile (3 * room) .1)
 
--- the record of the first of some tokens; of none a record of noughts
-unfoldable pub firstOf : List Tok → Token
-firstOf [] = record { kind = 0; len = 0; suffix = 0 }
-firstOf (t ∷ ts) = recordOf t
-
--- the record of the token at a place
+-- the record of the token at a place; where there is none, a record of noughts
 abbrev pub recordAt : Letters → ℕ → List ℕ → ℕ → Token
-recordAt u profile s at = firstOf (tokens u profile (left s at))
+recordAt u profile s at = recordOf (front (tokens u profile (left s at)))
 
 -- the place behind i tokens, the record there, and the row when those before it are stored
 abbrev pub placeAfter : Letters → ℕ → List ℕ → ℕ → ℕ
