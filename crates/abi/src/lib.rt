@@ -16,12 +16,15 @@ ghost use Rattle.modes.specs.Modes.{testedMode, isSingle, inDoubleQuotes, chara
 ghost use Rattle.modes.specs.Errors.{fatal};
 ghost use Rattle.unescape.specs.Outcome.{Unescaped, part, single};
 ghost use Rattle.renewal.specs.Outcome.{Keyed};
+ghost use Rattle.rows.specs.Rows.{Rowed};
 ghost use Rattle.same.specs.Compare.{Compared, compared};
 ghost use Rattle.same.specs.Places.{Placed, placeOf};
 use lexer::list::Run;
 use lexer::list::cut_run;
 use lexer::list::tokenize;
 use renewal::renewal_key;
+use rows::Token;
+use rows::tokenize_rows;
 use same::Comparison;
 use same::Place;
 use same::compare;
@@ -43,6 +46,13 @@ pub extern "C" fn oq3_tokenize(text: &[u8], profile: u32, list: &mut [u32]) -> A
     ensures { λ r. ⌜ Listed (now (text .entry)) profile (now (list .entry)) (r .number) (r .also) (now (list .exit)) ⌝ }
 {
     tokenize(text, profile, list)
+}
+
+#[no_mangle]
+pub extern "C" fn oq3_tokenize_rows(text: &[u8], profile: u32, row: &mut [Token]) -> Answer
+    ensures { λ r. ⌜ Rowed (now (text .entry)) profile (now (row .entry)) (r .number) (r .also) (now (row .exit)) ⌝ }
+{
+    tokenize_rows(text, profile, row)
 }
 
 #[no_mangle]
