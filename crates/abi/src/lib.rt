@@ -16,14 +16,17 @@ ghost use Rattle.modes.specs.Modes.{testedMode, isSingle, inDoubleQuotes, chara
 ghost use Rattle.modes.specs.Errors.{fatal};
 ghost use Rattle.unescape.specs.Outcome.{Unescaped, part, single};
 ghost use Rattle.renewal.specs.Outcome.{Keyed};
-ghost use Rattle.rows.specs.Rows.{Rowed};
+ghost use Rattle.rows.specs.Rows.{Rowed, Bridged};
 ghost use Rattle.same.specs.Compare.{Compared, compared};
 ghost use Rattle.same.specs.Places.{Placed, placeOf};
 use lexer::list::Run;
 use lexer::list::cut_run;
 use lexer::list::tokenize;
 use renewal::renewal_key;
+use rows::Row;
+use rows::Rows;
 use rows::Token;
+use rows::rows_of;
 use rows::tokenize_rows;
 use same::Comparison;
 use same::Place;
@@ -53,6 +56,20 @@ pub extern "C" fn oq3_tokenize_rows(text: &[u8], profile: u32, row: &mut [Token]
     ensures { λ r. ⌜ Rowed (now (text .entry)) profile (now (row .entry)) (r .number) (r .also) (now (row .exit)) ⌝ }
 {
     tokenize_rows(text, profile, row)
+}
+
+// A row of 64 records: C passes no array by value, and passes this.
+#[repr(C)]
+pub struct Records {
+    pub row: Row,
+}
+
+#[no_mangle]
+pub extern "C" fn oq3_rows_of(text: &[u8], profile: u32, row: Records, records: usize) -> Rows
+    ensures { λ r. ⌜ Bridged (now (text .entry)) profile records (row .row) (r .answer .number) (r .answer .also) (r .row) ⌝ }
+{
+    let given = row.row;
+    rows_of(text, profile, given, records)
 }
 
 #[no_mangle]
