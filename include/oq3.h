@@ -1,26 +1,28 @@
 /*
- * oq3.h: OpenQASM 3 text cut into tokens, its renewal key, and the bodies of its literals.
+ * oq3.h: OpenQASM 3 text cut into tokens, its renewal key, two texts compared, and the bodies of literals.
  *
  * The functions stand in the archive libabi.a, which `rt staticlib abi` writes to target/staticlib/. It is for x86-64 Linux, is compiled
- * as position-independent code, asks for no processor newer than the first x86-64, and needs no other library, not even C's:
+ * as position-independent code, asks for no processor newer than the first x86-64, and needs memcpy and memset, which a C compiler may call in
+ * any program, and nothing else:
  *
  *     cc -std=c99 -I include program.c target/staticlib/libabi.a
  *
  * This header is C99, and C++ too.
  *
  * What is asked of a caller: that each pointer, with its count, is memory that the caller may read (`const`) or read and write.
- *  - A count is of elements: bytes behind a `uint8_t *`, words behind a `uint32_t *`.
+ *  - A count is of elements: bytes behind a `uint8_t *`, words behind a `uint32_t *`, records behind an `oq3_token *`.
  *  - A count of 0 may go with any pointer, NULL too: nothing is read or written through it. With any other count a pointer that is
  *    NULL is an error of the caller's, and nothing notices it.
- *  - A `uint32_t *` is aligned to four bytes, as C asks of it anyhow. Bytes may stand anywhere. They need no NUL behind them, and a NUL among
- *    them is a character as any other.
- *  - What is written must not overlap what is read: a list or a key shares no byte with the text of the same call. Texts of calls that run side by side may overlap.
+ *  - A `uint32_t *` or `oq3_token *` is aligned to four bytes, as C asks of it anyhow. Bytes may stand anywhere. They need no NUL behind them,
+ *    and a NUL among them is a character as any other.
+ *  - What is written must not overlap what is read: a list, a row or a key shares no byte with a text or a table of the same call. What is only
+ *    read may overlap: the two texts of a comparison, three tables, texts of calls that run side by side.
  *  - What is lent to be written is never read: it may hold anything before the call.
  * Nothing else is asked: every text, number and count has an answer, and it is proved that there is one only, refusals included.
  *
- * No function keeps anything between calls, asks for memory, calls another library, or fails in another way than by its answer. So
+ * No function keeps anything between calls, asks for memory, calls another library but for these two, or fails in another way than by its answer. So
  * calls from several threads go side by side, as long as no thread writes what another's call reads or writes. A call takes less
- * than 16 KiB of stack.
+ * than 16 KiB of stack; one of oq3_tokenize_rows or oq3_rows_of, which has oq3_tokenize count where the row is short, less than 32 KiB.
  */
 #ifndef OQ3_H
 #define OQ3_H
@@ -149,10 +151,57 @@ enum { OQ3_WORDS = 3 };
  * There are no more tokens than bytes: 3 * text_len words are always enough, and where they are there nothing is counted first, which is
  * about twice as fast. With less room the text is cut twice, since a refusal must leave the list as it was.
  *
- * An array of oq3_token has the same layout as the list: lend (uint32_t *)row and three times its records. So a second function that takes rows
- * has no C name.
+ * An array of oq3_token has the same layout as the list: (uint32_t *)row and three times its records may be lent, or the row itself to the next one.
  */
 oq3_answer oq3_tokenize(const uint8_t *text, size_t text_len, uint32_t profile, uint32_t *list, size_t words);
+
+/*
+ * The same with an array of structs: `records` is the room of the row. The answer is that of oq3_tokenize with 3 * records words, and with 0 the
+ * first `also` records are the tokens; those behind them are as they were, and after a refusal all are.
+ */
+oq3_answer oq3_tokenize_rows(const uint8_t *text, size_t text_len, uint32_t profile, oq3_token *row, size_t records);
+
+/* A row by value, and the answer with one. */
+enum { OQ3_ROW = 64 };
+
+typedef struct oq3_records {
+    oq3_token row[OQ3_ROW];
+} oq3_records;
+
+typedef struct oq3_rows {
+    oq3_answer answer;
+    oq3_token row[OQ3_ROW];
+} oq3_rows;
+
+/*
+ * oq3_tokenize_rows with no pointer but the text's: the row is passed by value, and comes back with the tokens in it. Only its first `records`
+ * are lent, or all OQ3_ROW where more are asked for; the others come back as they were passed.
+ */
+oq3_rows oq3_rows_of(const uint8_t *text, size_t text_len, uint32_t profile, oq3_records row, size_t records);
+
+/* The place behind a run of tokens, and how many they are. */
+typedef struct oq3_run {
+    size_t at;
+    size_t count;
+} oq3_run;
+
+/*
+ * A run of tokens: those from the byte `from` on, as many as the list has room for, with what counts as a letter in three tables of the caller's
+ * ("Properties of a character", below, says what a table is). For a caller that walks a long text with a short list, and goes on at `at`.
+ *
+ * Nothing is checked and nothing is refused. The bytes may be any: each character is read as by oq3_decode, whole or none. A profile other than
+ * OQ3_PROFILE_DEBUG is taken as OQ3_PROFILE_RELEASE.
+ *
+ * Exactly 3 * count words are written, from list[0] on, as oq3_tokenize writes them, and those behind them are as they were. at is `from` and all the
+ * lengths that were written: it is text_len where the text is done. No token is given, nothing is written and at is `from` where the text has more
+ * than OQ3_LONGEST bytes, where `from` is text_len or more, and where there are fewer than OQ3_WORDS words.
+ *
+ * A character begins an identifier where it is '_' or passes oq3_is_xid_start_in with `start`, goes on with one where it passes
+ * oq3_is_xid_continue_in with `more`, and is an emoji where it passes oq3_is_emoji_in with `emoji`. Over the tables of the three properties in
+ * Unicode 15.0.0 runs that begin at 0, each where the one before it ended, give the tokens of oq3_tokenize.
+ */
+oq3_run oq3_cut_run(const uint8_t *text, size_t text_len, size_t from, uint32_t profile, uint32_t *list, size_t words, const uint32_t *start,
+                    size_t start_words, const uint32_t *more, size_t more_words, const uint32_t *emoji, size_t emoji_words);
 
 /* Tests on a character, by its number. No for a number that is no Unicode scalar value. */
 bool oq3_is_whitespace(uint32_t c);
@@ -172,6 +221,49 @@ oq3_answer oq3_is_ident(const uint8_t *text, size_t text_len);
  * byte of text; where there is room for as many nothing is measured first, which is about twice as fast.
  */
 oq3_answer oq3_renewal_key(const uint8_t *text, size_t text_len, uint32_t profile, uint8_t *key, size_t key_len);
+
+/* ---- Two texts compared ------------------------------------------------------------------------------------------------------- */
+
+enum {
+    OQ3_SAME = 0,
+    OQ3_DIFFERENT = 1,
+    OQ3_OLD_REFUSED = 2,
+    OQ3_NEW_REFUSED = 3 /* the old text is accepted */
+};
+
+/* A token of a text: its kind, its first byte's place, its length in bytes. At the end of a text: 0, the text's length, 0. */
+typedef struct oq3_sight {
+    uint32_t kind;
+    size_t start;
+    size_t length;
+} oq3_sight;
+
+typedef struct oq3_comparison {
+    uint32_t verdict;
+    oq3_answer refusal; /* the answer of oq3_check_cut to the text that was refused; 0 and 0 where none was */
+    size_t agreed;      /* how many counted tokens are the same in both texts, one by one, from the first on */
+    oq3_sight in_old;   /* the counted token behind those, or the end, in each text */
+    oq3_sight in_new;
+} oq3_comparison;
+
+/*
+ * Whether two texts have the same counted tokens, which are all but white space and closed comments, in kind, length, suffix start and bytes; and
+ * if not, where they part. Of two accepted texts it is OQ3_SAME exactly where their keys are the same bytes, but no key is made. After a refusal
+ * agreed and both sights are 0.
+ */
+oq3_comparison oq3_compare(const uint8_t *old_text, size_t old_len, const uint8_t *new_text, size_t new_len, uint32_t profile);
+
+/* A line and a column, both from 1. */
+typedef struct oq3_place {
+    size_t line;
+    size_t column;
+} oq3_place;
+
+/*
+ * The line and the column of the byte `at`, for a reader: a line ends behind each LF, and a column is a character, with a tab and a CR one as any
+ * other. Past the end it is the end's. Any bytes will do: each is a column but those from 0x80 to 0xBF, which go on with a character.
+ */
+oq3_place oq3_place_of(const uint8_t *text, size_t text_len, size_t at);
 
 /* ---- The bodies of literals --------------------------------------------------------------------------------------------------- */
 
@@ -252,6 +344,12 @@ oq3_answer oq3_is_unicode_escape_disallowed(uint32_t mode);
 /* also is the length of the literal's prefix, without the `r` of raw ones: 1 for the three modes of bytes, else 0. Refuses with 1. */
 oq3_answer oq3_prefix_noraw(uint32_t mode);
 
+/* The same by yes and no alone, and two tests more. No for a number that is no mode. */
+bool oq3_is_single(uint32_t mode);     /* OQ3_MODE_CHAR, OQ3_MODE_BYTE: one character, in single quotes */
+bool oq3_is_ascii_only(uint32_t mode); /* OQ3_MODE_BYTE, OQ3_MODE_BIT_STR, OQ3_MODE_BYTE_STR, OQ3_MODE_RAW_BYTE_STR */
+bool oq3_has_prefix(uint32_t mode);    /* OQ3_MODE_BYTE, OQ3_MODE_BYTE_STR, OQ3_MODE_RAW_BYTE_STR */
+bool oq3_is_raw(uint32_t mode);        /* OQ3_MODE_RAW_STR, OQ3_MODE_RAW_BYTE_STR: no escapes */
+
 /* Whether the error of this number, 1 to 22, is one: also is 0 for the two warnings and else 1. Refuses with 1. */
 oq3_answer oq3_is_fatal(uint32_t error);
 
@@ -275,6 +373,35 @@ typedef struct oq3_char {
  * wide.
  */
 oq3_char oq3_decode(const uint8_t *text, size_t text_len, size_t at);
+
+/* Its `code` alone. At or past the end 0, which a NUL has too. */
+uint32_t oq3_code(const uint8_t *text, size_t text_len, size_t at);
+
+/* ---- Properties of a character ------------------------------------------------------------------------------------------------ */
+
+/* Whether a character has the property in the Unicode Character Database 15.0.0. No for a number that is no Unicode scalar value. */
+bool oq3_is_xid_start(uint32_t c);
+bool oq3_is_xid_continue(uint32_t c);
+bool oq3_is_emoji(uint32_t c);       /* digits, # and * too, as the database has it */
+bool oq3_is_white_space(uint32_t c); /* White_Space: more than oq3_is_whitespace, as 0xA0, and less, as 0x200E */
+
+/*
+ * The same with a table of the caller's for the characters from 0x80 on. Those below 0x80 are as above, and the table is not asked about them.
+ *
+ * A table is `words` words, two for each range: its first and its last character, both in it. The ranges are in rising order and share no character.
+ * Over such a table the answer is whether one of the ranges holds c, be c a character or not. 0 words are a table that holds none. Of an odd number
+ * the last is not read.
+ *
+ * A table that is not in order does no harm, and each has one answer too, that of a binary search (`searched` in crates/unicode/specs/Search.antt
+ * defines it): yes only where one of the ranges holds c, but it may be no where one does.
+ *
+ * A call without a table first copies the library's own to the stack, unless c is ASCII: some 5, 6 and 1 KiB, and 80 bytes for White_Space. Who asks
+ * about many characters lends a table.
+ */
+bool oq3_is_xid_start_in(const uint32_t *table, size_t words, uint32_t c);
+bool oq3_is_xid_continue_in(const uint32_t *table, size_t words, uint32_t c);
+bool oq3_is_emoji_in(const uint32_t *table, size_t words, uint32_t c);
+bool oq3_is_white_space_in(const uint32_t *table, size_t words, uint32_t c);
 
 #ifdef __cplusplus
 }

@@ -1,6 +1,7 @@
 /*
- * test: calls each function of include/oq3.h and compares. Values by hand are from the scope's tables; then the lines of the test vectors, read from
- * standard input in the form `TASK ARGUMENTS = ANSWER`. The last line is `N passed, M failed`.
+ * test: calls each function of include/oq3.h and compares. Values by hand are from the scope's tables; then, from standard input, the members of the
+ * properties, as crates/membership/stdout has them of the Rust, and the lines of the test vectors, `TASK ARGUMENTS = ANSWER`. What these do not say is
+ * held to a plain model of it, written here. The last line is `N passed, M failed`.
  *
  * C's own functions are declared here, so that only the compiler's headers are needed where C's for x86-64 are not at hand.
  */
@@ -10,6 +11,7 @@ int printf(const char *, ...);
 int snprintf(char *, size_t, const char *, ...);
 int getchar(void);
 int memcmp(const void *, const void *, size_t);
+void *memcpy(void *, const void *, size_t);
 void *memset(void *, int, size_t);
 size_t strlen(const char *);
 int strcmp(const char *, const char *);
@@ -19,6 +21,14 @@ void *mmap(void *, size_t, int, int, int, long);
 typedef char answer_16[sizeof(oq3_answer) == 16 && offsetof(oq3_answer, also) == 8 ? 1 : -1];
 typedef char char_16[sizeof(oq3_char) == 16 && offsetof(oq3_char, wide) == 8 ? 1 : -1];
 typedef char token_12[sizeof(oq3_token) == 12 && sizeof(oq3_item) == 12 ? 1 : -1];
+typedef char rows_784[sizeof(oq3_records) == 768 && sizeof(oq3_rows) == 784 && offsetof(oq3_rows, row) == 16 ? 1 : -1];
+typedef char run_16[sizeof(oq3_run) == 16 && offsetof(oq3_run, count) == 8 ? 1 : -1];
+typedef char sight_24[sizeof(oq3_sight) == 24 && offsetof(oq3_sight, start) == 8 && offsetof(oq3_sight, length) == 16 ? 1 : -1];
+typedef char comparison_80[sizeof(oq3_comparison) == 80 && offsetof(oq3_comparison, refusal) == 8 && offsetof(oq3_comparison, agreed) == 24
+                                   && offsetof(oq3_comparison, in_old) == 32 && offsetof(oq3_comparison, in_new) == 56
+                               ? 1
+                               : -1];
+typedef char place_16[sizeof(oq3_place) == 16 && offsetof(oq3_place, column) == 8 ? 1 : -1];
 
 /* lent memory stands in the middle of these, between words and bytes that no call may change */
 enum { TEXT = 1 << 12, GUARD = 8, WORDS = OQ3_WORDS * (TEXT + 2), KEY = 11 * TEXT };
@@ -60,8 +70,22 @@ static bool clean(size_t n, size_t m) {
     return true;
 }
 
-/* ---- the two functions that fill a list of records */
+/* of the list's words nothing changed but the first n, as far as the guard behind so much room */
+static bool framed(size_t n, size_t room) {
+    size_t i;
+    for (i = 0; i < GUARD + room + GUARD; i++)
+        if ((i < GUARD || GUARD + n <= i) && words[i] != MARK)
+            return false;
+    return true;
+}
+
+/* ---- the functions that fill a list of records */
 typedef oq3_answer filler(const uint8_t *, size_t, uint32_t, uint32_t *, size_t);
+
+/* the row of structs, in the room of a list: what is left of three words is not lent */
+static oq3_answer tokenize_rows(const uint8_t *text, size_t len, uint32_t profile, uint32_t *into, size_t room) {
+    return oq3_tokenize_rows(text, len, profile, (oq3_token *)into, room / OQ3_WORDS);
+}
 
 /* the list in every kind of room: too small by a word and by all, as small as can be, with a part of a record behind, and plenty */
 static bool fills(filler *f, const uint8_t *text, size_t len, uint32_t selector, const uint32_t *want, size_t n) {
@@ -134,6 +158,7 @@ static void lists(void) {
     for (i = 0; i < sizeof tokens / sizeof *tokens; i++) {
         const sample *s = tokens + i;
         check(fills(oq3_tokenize, BYTES(s->text), strlen(s->text), s->selector, s->want, s->n), s->text, __LINE__);
+        check(fills(tokenize_rows, BYTES(s->text), strlen(s->text), s->selector, s->want, s->n), s->text, __LINE__);
     }
     for (i = 0; i < sizeof items / sizeof *items; i++) {
         const sample *s = items + i;
@@ -144,7 +169,123 @@ static void lists(void) {
         oq3_token row[2];
         CHECK(is(oq3_tokenize(BYTES("a;"), 2, OQ3_DEFAULT_PROFILE, (uint32_t *)row, OQ3_WORDS * 2), 0, 2));
         CHECK(row[0].kind == OQ3_KIND_IDENT && row[0].length == 1 && row[0].suffix == 0 && row[1].kind == OQ3_KIND_SEMI);
+        CHECK(is(oq3_tokenize_rows(BYTES(".1x"), 3, OQ3_DEFAULT_PROFILE, row, 2), 0, 2));
+        CHECK(row[0].kind == OQ3_KIND_DOT && row[0].length == 1 && row[0].suffix == 0 && row[1].kind == OQ3_KIND_INT_DECIMAL && row[1].length == 2 && row[1].suffix == 1);
     }
+}
+
+/* a row by value: its first records as tokenize_rows would leave them, the others and the caller's own as they were, and nothing beside the result */
+static bool by_value(const uint8_t *text, size_t len, uint32_t profile, size_t records, oq3_answer answer, const uint32_t *want) {
+    static struct {
+        uint32_t before[GUARD];
+        oq3_rows got;
+        uint32_t behind[GUARD];
+    } kept;
+    oq3_records mine;
+    size_t n = answer.number == OQ3_DONE ? (size_t)answer.also : 0, i;
+    const uint32_t *got = &kept.got.row[0].kind;
+    bool good = true;
+    memset(&kept, 0xA5, sizeof kept);
+    for (i = 0; i < OQ3_ROW; i++)
+        mine.row[i].kind = mine.row[i].length = mine.row[i].suffix = (uint32_t)(1000 + i);
+    kept.got = oq3_rows_of(text, len, profile, mine, records);
+    good = good && is(kept.got.answer, answer.number, answer.also) && n <= OQ3_ROW;
+    for (i = 0; i < OQ3_ROW; i++) {
+        uint32_t mark = (uint32_t)(1000 + i);
+        good = good && mine.row[i].kind == mark && mine.row[i].length == mark && mine.row[i].suffix == mark;
+        if (n <= i)
+            good = good && kept.got.row[i].kind == mark && kept.got.row[i].length == mark && kept.got.row[i].suffix == mark;
+    }
+    for (i = 0; i < GUARD; i++)
+        good = good && kept.before[i] == MARK && kept.behind[i] == MARK;
+    return good && memcmp(got, want, 4 * OQ3_WORDS * n) == 0;
+}
+
+static oq3_answer answer(uint32_t number, uint64_t also) {
+    oq3_answer a;
+    a.number = number;
+    a.also = also;
+    return a;
+}
+
+static void values(void) {
+    static uint8_t many[70];
+    static uint32_t semis[OQ3_WORDS * 70];
+    size_t i, k;
+    for (i = 0; i < sizeof tokens / sizeof *tokens; i++) {
+        const sample *s = tokens + i;
+        for (k = 0; k <= s->n + 1; k++)
+            check(by_value(BYTES(s->text), strlen(s->text), s->selector, k, answer(k < s->n ? OQ3_ROOM_TOO_SMALL : OQ3_DONE, s->n), s->want), s->text, __LINE__);
+    }
+    for (i = 0; i < 70; i++) {
+        many[i] = ';';
+        semis[3 * i] = OQ3_KIND_SEMI;
+        semis[3 * i + 1] = 1;
+    }
+    CHECK(by_value(many, 64, 0, 64, answer(0, 64), semis) && by_value(many, 64, 0, SIZE_MAX, answer(0, 64), semis));
+    CHECK(by_value(many, 65, 0, 65, answer(4, 65), semis) && by_value(many, 70, 0, SIZE_MAX, answer(4, 70), semis));
+    CHECK(by_value(many, 63, 1, 62, answer(4, 63), semis) && by_value(many, 63, 1, 63, answer(0, 63), semis));
+    CHECK(by_value(many, 1, 2, 64, answer(1, 0), semis) && by_value(BYTES(";\xFF"), 2, 0, 64, answer(3, 1), semis) && by_value(NULL, 0, 0, 0, answer(0, 0), semis));
+}
+
+/* ---- runs of tokens, and tables of letters */
+static bool ran(oq3_run r, size_t at, size_t count) {
+    return r.at == at && r.count == count;
+}
+
+/* one run over three small tables, with guards around its words */
+typedef struct letters {
+    const uint32_t *start, *more, *emoji;
+    size_t starts, mores, emojis;
+} letters;
+
+static oq3_run cut(const uint8_t *text, size_t len, size_t from, uint32_t profile, size_t room, letters u) {
+    fresh();
+    return oq3_cut_run(text, len, from, profile, room == 0 ? NULL : list, room, u.start, u.starts, u.more, u.mores, u.emoji, u.emojis);
+}
+
+static bool holds_words(size_t n, size_t room, const uint32_t *want) {
+    return framed(n, room) && clean(room, 0) && memcmp(list, want, 4 * n) == 0;
+}
+
+static void runs(void) {
+    /* theta, alpha to omega, and theta as an emoji */
+    static const uint32_t theta[] = {0x3B8, 0x3B8}, greek[] = {0x3B1, 0x3C9};
+    static const uint32_t semi_name[] = {10, 1, 0, 5, 1, 0}, name[] = {5, 2, 0, 5, 2, 0}, all[] = {5, 4, 0}, none[] = {37, 2, 0, 37, 2, 0}, picture[] = {7, 4, 0};
+    static const uint32_t broken[] = {37, 1, 0, 37, 2, 0}, named[] = {5, 6, 0}, lines[] = {8, 6, 0}, ended[] = {44, 1, 1, 5, 1, 0};
+    static const letters no = {NULL, NULL, NULL, 0, 0, 0};
+    const uint8_t *two = BYTES("\xCE\xB8\xCE\xB8"), *semis = BYTES(";a;1s");
+    letters start = no, both = no, pictures = no, odd = no;
+    start.start = theta, start.starts = 2;
+    both = start, both.more = greek, both.mores = 2;
+    pictures.emoji = theta, pictures.emojis = 2;
+    odd = both, odd.starts = 1;
+    /* as many as there is room for, and the next from there on */
+    CHECK(ran(cut(semis, 5, 0, 0, 6, no), 2, 2) && holds_words(6, 6, semi_name));
+    CHECK(ran(cut(semis, 5, 0, 0, 8, no), 2, 2) && holds_words(6, 8, semi_name));
+    CHECK(ran(cut(semis, 5, 0, 0, 3, no), 1, 1) && holds_words(3, 3, semi_name));
+    CHECK(ran(cut(semis, 5, 1, 0, 3, no), 2, 1) && holds_words(3, 3, semi_name + 3));
+    CHECK(ran(cut(semis, 5, 3, 0, 12, no), 5, 2) && holds_words(6, 12, ended));
+    /* no room, at the end and past it: nothing is written, and the place stays */
+    CHECK(ran(cut(semis, 5, 0, 0, 0, no), 0, 0) && clean(0, 0));
+    CHECK(ran(cut(semis, 5, 1, 0, 2, no), 1, 0) && clean(0, 0));
+    CHECK(ran(cut(semis, 5, 5, 0, 9, no), 5, 0) && clean(0, 0));
+    CHECK(ran(cut(semis, 5, 6, 0, 9, no), 6, 0) && clean(0, 0));
+    CHECK(ran(cut(semis, 5, SIZE_MAX, 0, 9, no), SIZE_MAX, 0) && clean(0, 0));
+    CHECK(ran(cut(NULL, 0, 0, 0, 9, both), 0, 0) && clean(0, 0));
+    CHECK(ran(cut(NULL, 0, 7, 1, 0, both), 7, 0) && clean(0, 0));
+    /* what is a letter is said by the tables alone */
+    CHECK(ran(cut(two, 4, 0, 0, 9, no), 4, 2) && holds_words(6, 9, none));
+    CHECK(ran(cut(two, 4, 0, 0, 9, start), 4, 2) && holds_words(6, 9, name));
+    CHECK(ran(cut(two, 4, 0, 0, 9, both), 4, 1) && holds_words(3, 9, all));
+    CHECK(ran(cut(two, 4, 0, 0, 9, odd), 4, 2) && holds_words(6, 9, none));
+    CHECK(ran(cut(two, 4, 0, 0, 9, pictures), 4, 1) && holds_words(3, 9, picture));
+    /* bytes that are no characters, and profiles that are none */
+    CHECK(ran(cut(two, 4, 1, 0, 9, no), 4, 2) && holds_words(6, 9, broken));
+    CHECK(ran(cut(BYTES("pragma"), 6, 0, 0, 9, no), 6, 1) && holds_words(3, 9, named));
+    CHECK(ran(cut(BYTES("pragma"), 6, 0, 1, 9, no), 6, 1) && holds_words(3, 9, lines));
+    CHECK(ran(cut(BYTES("pragma"), 6, 0, 2, 9, no), 6, 1) && holds_words(3, 9, named));
+    CHECK(ran(cut(BYTES("pragma"), 6, 0, UINT32_MAX, 9, no), 6, 1) && holds_words(3, 9, named));
 }
 
 /* each refusal, in the order of the checks, and nothing written */
@@ -155,6 +296,9 @@ static void refusals(void) {
     CHECK(is(oq3_tokenize(bad, 4, 0, list, 0), 3, 3));
     CHECK(is(oq3_tokenize(bad + 3, 1, 0, list, WORDS), 3, 0));
     CHECK(is(oq3_tokenize(BYTES(";"), 1, 0, list, 0), 4, 1));
+    CHECK(is(oq3_tokenize_rows(bad, 4, 2, (oq3_token *)list, 0), 1, 0));
+    CHECK(is(oq3_tokenize_rows(bad, 4, 1, (oq3_token *)list, 9), 3, 3));
+    CHECK(is(oq3_tokenize_rows(bad, 3, 0, (oq3_token *)list, 1), 4, 2));
     CHECK(is(oq3_renewal_key(bad, 4, UINT32_MAX, key, 0), 1, 0));
     CHECK(is(oq3_renewal_key(bad, 4, 1, key, KEY), 3, 3));
     CHECK(is(oq3_renewal_key(BYTES(";"), 1, 0, NULL, 0), 4, 1));
@@ -178,6 +322,8 @@ static void nothing(void) {
     fresh();
     CHECK(is(oq3_tokenize(NULL, 0, 0, NULL, 0), 0, 0));
     CHECK(is(oq3_tokenize(NULL, 0, 1, list, 3), 0, 0));
+    CHECK(is(oq3_tokenize_rows(NULL, 0, 0, NULL, 0), 0, 0));
+    CHECK(is(oq3_tokenize_rows(NULL, 0, 1, (oq3_token *)list, 1), 0, 0));
     CHECK(is(oq3_renewal_key(NULL, 0, 0, NULL, 0), 0, 0));
     CHECK(is(oq3_unescape_literal(NULL, 0, OQ3_MODE_STR, NULL, 0), 0, 0));
     CHECK(is(oq3_unescape_literal(NULL, 0, OQ3_MODE_CHAR, NULL, 0), 4, 1));
@@ -189,6 +335,7 @@ static void nothing(void) {
     CHECK(is(oq3_check_text(NULL, 0), 0, 0) && is(oq3_check_cut(NULL, 0, 1), 0, 0) && is(oq3_check_cut(NULL, 0, 2), 1, 0));
     CHECK(oq3_valid_up_to(NULL, 0) == 0);
     CHECK(oq3_decode(NULL, 0, 0).wide == 0 && oq3_decode(NULL, 0, SIZE_MAX).code == 0);
+    CHECK(oq3_code(NULL, 0, 0) == 0 && oq3_code(NULL, 0, SIZE_MAX) == 0);
 }
 
 /* one byte more than the longest text: memory that is reserved and never touched */
@@ -196,6 +343,9 @@ static void too_long(void) {
     size_t more = (size_t)OQ3_LONGEST + 1;
     void *at = mmap(NULL, more, 1 /* PROT_READ */, 0x4022 /* MAP_PRIVATE | MAP_ANONYMOUS | MAP_NORESERVE */, -1, 0);
     const uint8_t *text = (const uint8_t *)at;
+    static const letters no = {NULL, NULL, NULL, 0, 0, 0};
+    static const oq3_records blank = {{{0, 0, 0}}};
+    oq3_comparison c;
     if (at == (void *)-1) {
         printf("test: no room for a text of 4 GiB, refusal 2 is not tried\n");
         return;
@@ -203,6 +353,9 @@ static void too_long(void) {
     fresh();
     CHECK(is(oq3_tokenize(text, more, 0, list, 0), 2, 0));
     CHECK(is(oq3_tokenize(text, more, 2, list, 0), 1, 0));
+    CHECK(is(oq3_tokenize_rows(text, more, 0, (oq3_token *)list, 9), 2, 0));
+    CHECK(is(oq3_rows_of(text, more, 0, blank, 64).answer, 2, 0));
+    CHECK(ran(cut(text, more, 0, 0, 9, no), 0, 0) && ran(cut(text, more, 5, 0, 9, no), 5, 0));
     CHECK(is(oq3_renewal_key(text, more, 1, key, KEY), 2, 0));
     CHECK(is(oq3_unescape_literal(text, more, 6, list, WORDS), 2, 0));
     CHECK(is(oq3_unescape_part(text, more, 0, more, 1, list, WORDS), 2, 0));
@@ -211,6 +364,12 @@ static void too_long(void) {
     CHECK(is(oq3_is_ident(text, more), 2, 0));
     CHECK(is(oq3_unescape_char(text, more), 2, 0) && is(oq3_unescape_byte(text, more), 2, 0));
     CHECK(is(oq3_check_text(text, more), 2, 0) && is(oq3_check_cut(text, more, 0), 2, 0) && is(oq3_check_cut(text, more, 3), 1, 0));
+    c = oq3_compare(text, more, text, more, 0);
+    CHECK(c.verdict == OQ3_OLD_REFUSED && is(c.refusal, 2, 0) && c.agreed == 0);
+    c = oq3_compare(text, 1, text, more, 0);
+    CHECK(c.verdict == OQ3_NEW_REFUSED && is(c.refusal, 2, 0) && c.agreed == 0);
+    CHECK(oq3_place_of(text, more, 3).line == 1 && oq3_place_of(text, more, 3).column == 4);
+    CHECK(oq3_code(text, more, more - 1) == 0 && oq3_decode(text, more, more - 1).wide == 1 && oq3_decode(text, more, more).wide == 0);
 }
 
 static void keys(void) {
@@ -225,7 +384,183 @@ static void keys(void) {
     }
 }
 
+/* ---- two texts compared */
+static bool seen(oq3_sight s, uint32_t kind, size_t start, size_t length) {
+    return s.kind == kind && s.start == start && s.length == length;
+}
+
+static bool found(oq3_comparison c, oq3_comparison want) {
+    return c.verdict == want.verdict && is(c.refusal, want.refusal.number, want.refusal.also) && c.agreed == want.agreed
+           && seen(c.in_old, want.in_old.kind, want.in_old.start, want.in_old.length) && seen(c.in_new, want.in_new.kind, want.in_new.start, want.in_new.length);
+}
+
+static const struct {
+    const char *older, *newer;
+    uint32_t profile;
+    oq3_comparison want;
+} pairs[] = {
+    {"", "", 0, {OQ3_SAME, {0, 0}, 0, {0, 0, 0}, {0, 0, 0}}},
+    {"a b", "a  /* x */ b", 0, {OQ3_SAME, {0, 0}, 2, {0, 3, 0}, {0, 12, 0}}},
+    {"1s", "//\n1 s\n", 1, {OQ3_SAME, {0, 0}, 2, {0, 2, 0}, {0, 7, 0}}},
+    {"a b", "a c", 0, {OQ3_DIFFERENT, {0, 0}, 1, {5, 2, 1}, {5, 2, 1}}},
+    {"a b", "ab", 0, {OQ3_DIFFERENT, {0, 0}, 0, {5, 0, 1}, {5, 0, 2}}},
+    {"a", " a;b", 0, {OQ3_DIFFERENT, {0, 0}, 1, {0, 1, 0}, {10, 2, 1}}},
+    {" a;b", "a", 0, {OQ3_DIFFERENT, {0, 0}, 1, {10, 2, 1}, {0, 1, 0}}},
+    {"x /* y", "x", 0, {OQ3_DIFFERENT, {0, 0}, 1, {3, 2, 4}, {0, 1, 0}}},
+    {"pragma a", "pragma  a", 0, {OQ3_SAME, {0, 0}, 2, {0, 8, 0}, {0, 9, 0}}},
+    {"pragma a", "pragma  a", 1, {OQ3_DIFFERENT, {0, 0}, 0, {8, 0, 8}, {8, 0, 9}}},
+    {"1.5s", "1.5e", 0, {OQ3_DIFFERENT, {0, 0}, 0, {52, 0, 3}, {53, 0, 4}}},
+    {"a\xFF", "b", 0, {OQ3_OLD_REFUSED, {3, 1}, 0, {0, 0, 0}, {0, 0, 0}}},
+    {"a", "\xFF", 1, {OQ3_NEW_REFUSED, {3, 0}, 0, {0, 0, 0}, {0, 0, 0}}},
+    {"a\xFF", "\xFF", 0, {OQ3_OLD_REFUSED, {3, 1}, 0, {0, 0, 0}, {0, 0, 0}}},
+    {"a", "a", 2, {OQ3_OLD_REFUSED, {1, 0}, 0, {0, 0, 0}, {0, 0, 0}}},
+    {"a\xFF", "a", UINT32_MAX, {OQ3_OLD_REFUSED, {1, 0}, 0, {0, 0, 0}, {0, 0, 0}}},
+};
+
+/* a model of it over the lists of oq3_tokenize: the next token that counts, and where it stands */
+typedef struct walker {
+    uint32_t list[WORDS];
+    size_t n, next, at;
+} walker;
+
+static bool counted(walker *w) {
+    for (; w->next < w->n; w->next++) {
+        uint32_t kind = w->list[3 * w->next];
+        if (kind != OQ3_KIND_WHITESPACE && kind != OQ3_KIND_LINE_COMMENT && kind != OQ3_KIND_BLOCK_COMMENT)
+            return true;
+        w->at += w->list[3 * w->next + 1];
+    }
+    return false;
+}
+
+static oq3_sight sight(walker *w) {
+    oq3_sight s;
+    bool some = counted(w);
+    s.kind = some ? w->list[3 * w->next] : 0;
+    s.start = w->at;
+    s.length = some ? w->list[3 * w->next + 1] : 0;
+    return s;
+}
+
+static oq3_comparison model(const uint8_t *older, size_t n, const uint8_t *newer, size_t m, uint32_t profile) {
+    static walker a, b;
+    oq3_answer first = oq3_tokenize(older, n, profile, a.list, WORDS), second = oq3_tokenize(newer, m, profile, b.list, WORDS);
+    oq3_comparison c;
+    memset(&c, 0, sizeof c);
+    if (first.number != 0 || second.number != 0) {
+        c.verdict = first.number != 0 ? OQ3_OLD_REFUSED : OQ3_NEW_REFUSED;
+        c.refusal = first.number != 0 ? first : second;
+        return c;
+    }
+    a.n = (size_t)first.also, b.n = (size_t)second.also;
+    a.next = a.at = b.next = b.at = 0;
+    while (counted(&a) && counted(&b) && memcmp(a.list + 3 * a.next, b.list + 3 * b.next, 12) == 0
+           && memcmp(older + a.at, newer + b.at, a.list[3 * a.next + 1]) == 0) {
+        a.at += a.list[3 * a.next++ + 1];
+        b.at += b.list[3 * b.next++ + 1];
+        c.agreed++;
+    }
+    c.verdict = counted(&a) || counted(&b) ? OQ3_DIFFERENT : OQ3_SAME;
+    c.in_old = sight(&a);
+    c.in_new = sight(&b);
+    return c;
+}
+
+/* and of a line and a column: LFs are counted from the start, and back to the last one the bytes that begin a character */
+static bool placed(const uint8_t *text, size_t n, size_t at) {
+    oq3_place p = oq3_place_of(text, n, at);
+    size_t i, line = 1, column = 1, end = at < n ? at : n;
+    for (i = 0; i < end; i++)
+        line += text[i] == '\n';
+    for (i = end; 0 < i && text[i - 1] != '\n'; i--)
+        column += (text[i - 1] & 0xC0) != 0x80;
+    return p.line == line && p.column == column;
+}
+
+static bool all_placed(const uint8_t *text, size_t n) {
+    size_t at;
+    for (at = 0; at < n + 3; at++)
+        if (!placed(text, n, at))
+            return false;
+    return placed(text, n, SIZE_MAX);
+}
+
+static bool at_place(const char *text, size_t at, size_t line, size_t column) {
+    oq3_place p = oq3_place_of(BYTES(text), strlen(text), at);
+    return p.line == line && p.column == column;
+}
+
+static void comparisons(void) {
+    size_t i;
+    for (i = 0; i < sizeof pairs / sizeof *pairs; i++) {
+        const uint8_t *older = BYTES(pairs[i].older), *newer = BYTES(pairs[i].newer);
+        size_t n = strlen(pairs[i].older), m = strlen(pairs[i].newer);
+        check(found(oq3_compare(older, n, newer, m, pairs[i].profile), pairs[i].want), pairs[i].newer, __LINE__);
+        check(found(model(older, n, newer, m, pairs[i].profile), pairs[i].want), pairs[i].newer, __LINE__);
+    }
+    CHECK(found(oq3_compare(NULL, 0, NULL, 0, 1), pairs[0].want));
+    CHECK(oq3_compare(NULL, 0, BYTES("a"), 1, 0).in_new.length == 1 && oq3_compare(BYTES("a"), 1, NULL, 0, 0).in_old.length == 1);
+    CHECK(at_place("", 0, 1, 1) && at_place("", 9, 1, 1) && oq3_place_of(NULL, 0, SIZE_MAX).column == 1);
+    CHECK(at_place("ab\ncd", 0, 1, 1) && at_place("ab\ncd", 2, 1, 3) && at_place("ab\ncd", 3, 2, 1) && at_place("ab\ncd", 5, 2, 3) && at_place("ab\ncd", SIZE_MAX, 2, 3));
+    CHECK(at_place("\xCE\xB8z\r\n\n", 2, 1, 2) && at_place("\xCE\xB8z\r\n\n", 3, 1, 3) && at_place("\xCE\xB8z\r\n\n", 4, 1, 4) && at_place("\xCE\xB8z\r\n\n", 6, 3, 1));
+    CHECK(at_place("\xFF\x80\xC0", 3, 1, 3) && at_place("\t\t", 2, 1, 3));
+}
+
+/* ---- characters */
+/* a model of UTF-8 by the values that sequences have, and not by their bytes: the shortest form of a scalar value, or none */
+static bool read_as(const uint8_t *text, size_t n, size_t at) {
+    static const uint32_t least[5] = {0, 0, 0x80, 0x800, 0x10000};
+    oq3_char c = oq3_decode(text, n, at);
+    uint32_t code, i, wide;
+    if (n <= at)
+        return c.code == 0 && c.wide == 0 && oq3_code(text, n, at) == 0;
+    code = text[at];
+    wide = code < 0x80 ? 1 : code < 0xC0 ? 0 : code < 0xE0 ? 2 : code < 0xF0 ? 3 : code < 0xF8 ? 4 : 0;
+    if (1 < wide)
+        code &= 0x7FU >> wide;
+    for (i = 1; i < wide; i++) {
+        if (n <= at + i || (text[at + i] & 0xC0) != 0x80) {
+            wide = 0;
+            break;
+        }
+        code = code << 6 | (text[at + i] & 0x3FU);
+    }
+    if (wide == 0 || code < least[wide] || 0x10FFFF < code || (0xD800 <= code && code < 0xE000)) {
+        code = OQ3_NO_CHAR + text[at];
+        wide = 1;
+    }
+    return c.code == code && c.wide == wide && oq3_code(text, n, at) == code;
+}
+
+static bool all_read(const uint8_t *text, size_t n) {
+    size_t at;
+    for (at = 0; at < n + 3; at++)
+        if (!read_as(text, n, at))
+            return false;
+    return read_as(text, n, SIZE_MAX);
+}
+
+/* the modes, each with its answers: one character, ASCII only, a prefix, raw */
+static const bool modes[7][4] = {{1, 0, 0, 0}, {0, 0, 0, 0}, {1, 1, 1, 0}, {0, 1, 0, 0}, {0, 1, 1, 0}, {0, 0, 0, 1}, {0, 1, 1, 1}};
+
+static bool mode_is(uint32_t mode, const bool *want) {
+    return oq3_is_single(mode) == want[0] && oq3_is_ascii_only(mode) == want[1] && oq3_has_prefix(mode) == want[2] && oq3_is_raw(mode) == want[3];
+}
+
 static void singles(void) {
+    /* on both sides of the surrogates and of the last character, and forms that are too long */
+    static const uint8_t edges[] = {0xED, 0x9F, 0xBF, 0xED, 0xA0, 0x80, 0xEE, 0x80, 0x80, 0xF4, 0x8F, 0xBF, 0xBF, 0xF4,
+                                    0x90, 0x80, 0x80, 0xC1, 0xBF, 0xE0, 0x9F, 0xBF, 0xF0, 0x8F, 0xBF, 0xBF, 0xF8, 0x80};
+    uint32_t mode;
+    for (mode = 0; mode < 7; mode++)
+        CHECK(mode_is(mode, modes[mode]));
+    /* a number that is no mode has the answers of a plain string */
+    CHECK(mode_is(7, modes[OQ3_MODE_STR]) && mode_is(8, modes[OQ3_MODE_STR]) && mode_is(UINT32_MAX, modes[OQ3_MODE_STR]));
+    CHECK(mode_is(256 + OQ3_MODE_BYTE, modes[OQ3_MODE_STR]) && mode_is(65536 + OQ3_MODE_RAW_BYTE_STR, modes[OQ3_MODE_STR]));
+    CHECK(oq3_is_xid_start('a') && oq3_is_xid_start(0x3B8) && !oq3_is_xid_start('_') && !oq3_is_xid_start('0'));
+    CHECK(oq3_is_xid_continue('_') && oq3_is_xid_continue('0') && oq3_is_xid_continue(0x301) && !oq3_is_xid_continue('-'));
+    CHECK(oq3_is_emoji('#') && oq3_is_emoji('7') && oq3_is_emoji(0x1F600) && !oq3_is_emoji('a') && !oq3_is_emoji(0x3B8));
+    CHECK(oq3_is_white_space(' ') && oq3_is_white_space(0xA0) && oq3_is_white_space(0x3000) && !oq3_is_white_space('a') && !oq3_is_white_space(0x200E));
     CHECK(oq3_is_whitespace(' ') && oq3_is_whitespace(0x2029) && !oq3_is_whitespace('a') && !oq3_is_whitespace(0xA0) && !oq3_is_whitespace(UINT32_MAX));
     CHECK(oq3_is_id_start('_') && oq3_is_id_start(0x3B8) && !oq3_is_id_start('0') && !oq3_is_id_start(0xD800) && !oq3_is_id_start(0x110000));
     CHECK(oq3_is_id_continue('_') && oq3_is_id_continue('0') && !oq3_is_id_continue('-') && !oq3_is_id_continue(0x110000));
@@ -245,13 +580,16 @@ static void singles(void) {
         oq3_char good = oq3_decode(BYTES("a\xCE\xB8"), 3, 1), bad = oq3_decode(BYTES("a\xCE\xB8"), 3, 2);
         CHECK(good.code == 0x3B8 && good.wide == 2 && bad.code == OQ3_NO_CHAR + 0xB8 && bad.wide == 1);
     }
+    CHECK(oq3_code(BYTES("a\xCE\xB8"), 3, 0) == 'a' && oq3_code(BYTES("a\xCE\xB8"), 3, 1) == 0x3B8 && oq3_code(BYTES("a\xCE\xB8"), 3, 2) == OQ3_NO_CHAR + 0xB8);
+    CHECK(oq3_code(BYTES("a"), 1, 1) == 0 && oq3_code(BYTES("a"), 1, SIZE_MAX) == 0 && oq3_code(BYTES("\xF0\x9F\x98\x80"), 4, 0) == 0x1F600);
+    CHECK(all_read(edges, sizeof edges));
 }
 
 /* ---- the vectors: each line is answered anew and compared */
 static char line[1 << 17], said[1 << 19];
 static uint8_t text[TEXT], other[TEXT];
 static size_t text_len, used;
-static const char *rest;
+static const char *rest, *wanted;
 
 static void say(uint64_t n, const char *before) {
     used += (size_t)snprintf(said + used, sizeof said - used, "%s%llu", before, (unsigned long long)n);
@@ -300,6 +638,111 @@ static size_t hex(uint8_t *into) {
     for (; *rest != ' ' && *rest != 0 && n < TEXT; rest += 2)
         into[n++] = (uint8_t)(16 * digit(rest[0]) + digit(rest[1]));
     return n;
+}
+
+/* ---- the members of each property, range by range */
+typedef struct property {
+    const char *name;
+    bool (*ask)(uint32_t);
+    bool (*ask_in)(const uint32_t *, size_t, uint32_t);
+    uint32_t table[2048];
+    size_t words;
+} property;
+enum { XID_START, XID_CONTINUE, EMOJI, WHITE_SPACE, PROPERTIES = 7 };
+static property properties[PROPERTIES] = {
+    {"is_xid_start", oq3_is_xid_start, oq3_is_xid_start_in, {0}, 0}, {"is_xid_continue", oq3_is_xid_continue, oq3_is_xid_continue_in, {0}, 0},
+    {"is_emoji", oq3_is_emoji, oq3_is_emoji_in, {0}, 0},             {"is_white_space", oq3_is_white_space, oq3_is_white_space_in, {0}, 0},
+    {"is_whitespace", oq3_is_whitespace, NULL, {0}, 0},              {"is_id_start", oq3_is_id_start, NULL, {0}, 0},
+    {"is_id_continue", oq3_is_id_continue, NULL, {0}, 0}};
+
+static bool holds(const uint32_t *table, size_t n, uint32_t c) {
+    size_t i;
+    for (i = 0; i + 1 < n; i += 2)
+        if (table[i] <= c && c <= table[i + 1])
+            return true;
+    return false;
+}
+
+static bool has(const property *p, uint32_t c) {
+    return holds(p->table, p->words, c);
+}
+
+static uint32_t hex_number(void) {
+    uint32_t n = 0;
+    while (*rest == ' ')
+        rest++;
+    for (; *rest != ' ' && *rest != 0; rest++)
+        n = 16 * n + digit(*rest);
+    return n;
+}
+
+/* NAME asked N members M ranges R, and the first and the last of each range */
+static void read_property(property *p) {
+    size_t n = strlen(p->name), ranges, i;
+    uint64_t members, sum = 0;
+    bool named = read_line() && memcmp(line, p->name, n) == 0 && memcmp(line + n, " asked ", 7) == 0;
+    check(named, p->name, __LINE__);
+    if (!named)
+        return;
+    rest = line + n + 7;
+    number();
+    rest += strlen(" members ");
+    members = number();
+    rest += strlen(" ranges ");
+    ranges = (size_t)number();
+    for (i = 0; i < ranges && p->words + 2 <= 2048 && read_line(); i++) {
+        rest = line;
+        p->table[p->words++] = hex_number();
+        p->table[p->words++] = hex_number();
+        sum += p->table[2 * i + 1] - p->table[2 * i] + 1;
+    }
+    check(sum == members && p->words == 2 * ranges && 0 < ranges, p->name, __LINE__);
+}
+
+/* the test is asked at the edges of each range, at every 97th number and where there are no characters; and so is the form with a table */
+static void ask_property(const property *p) {
+    static const uint32_t odd[] = {0xD7FF, 0xD800, 0xDFFF, 0xE000, 0xFFFF, 0x10FFFF, 0x110000, 0x1100FF, 0x80000000, UINT32_MAX};
+    bool good = true;
+    uint32_t c;
+    size_t i, k;
+    for (i = 0; i < p->words; i += 2)
+        for (k = 0; k < 2; k++) {
+            uint32_t edge = p->table[i + k], beside = k == 0 ? edge - 1 : edge + 1;
+            good = good && p->ask(edge) && !p->ask(beside) && (p->ask_in == NULL || (p->ask_in(p->table, p->words, edge) && !p->ask_in(p->table, p->words, beside)));
+        }
+    check(good, p->name, __LINE__);
+    for (c = 0; c < 0x112000; c += c < 0x180 ? 1 : 97)
+        good = good && p->ask(c) == has(p, c) && (p->ask_in == NULL || p->ask_in(p->table, p->words, c) == has(p, c));
+    check(good, p->name, __LINE__);
+    for (i = 0; i < sizeof odd / sizeof *odd; i++)
+        good = good && p->ask(odd[i]) == has(p, odd[i]) && (p->ask_in == NULL || p->ask_in(p->table, p->words, odd[i]) == has(p, odd[i]));
+    check(good, p->name, __LINE__);
+}
+
+/* tables of the caller's own: below 0x80 they are not asked */
+static void lend_tables(const property *p) {
+    static const uint32_t few[] = {0x21, 0x7F, 0x100, 0x1FF, 0x3B8, 0x3B8, 0x110000, 0x110005}, turned[] = {0x200, 0x2FF, 0x100, 0x1FF};
+    bool good = true;
+    uint32_t c;
+    size_t n;
+    for (n = 0; n <= sizeof few / sizeof *few; n++)
+        for (c = 0; c < 0x400; c++)
+            good = good && p->ask_in(n == 0 ? NULL : few, n, c) == (c < 0x80 ? has(p, c) : holds(few, n, c));
+    check(good, p->name, __LINE__);
+    check(p->ask_in(few, 8, 0x110003) && !p->ask_in(few, 6, 0x110003) && !p->ask_in(few, 7, 0x110003) && !p->ask_in(few, 8, UINT32_MAX), p->name, __LINE__);
+    /* not in order: the search ends at the second range, and says no of what the first one holds */
+    check(p->ask_in(turned, 4, 0x150) && !p->ask_in(turned, 4, 0x250) && !p->ask_in(turned, 4, 0x350) && !p->ask_in(turned, 4, 0x90), p->name, __LINE__);
+}
+
+static void members(void) {
+    size_t i;
+    for (i = 0; i < PROPERTIES; i++)
+        read_property(properties + i);
+    for (i = 0; i < PROPERTIES; i++) {
+        ask_property(properties + i);
+        if (properties[i].ask_in != NULL)
+            lend_tables(properties + i);
+    }
 }
 
 static void say_answer(oq3_answer a) {
@@ -359,6 +802,32 @@ static void body(void) {
     say_records(oq3_unescape_part(text, text_len, at + 1, end, mode, list, OQ3_WORDS * (text_len + 1)));
 }
 
+/* the n tokens that were given, by runs over the tables of the properties, with little room and with much; as rows; and by value */
+static void again(uint32_t profile, oq3_answer a) {
+    static const size_t rooms[] = {3, 8, 30, WORDS};
+    static uint32_t want[WORDS];
+    const property *u = properties;
+    size_t i, k, n = (size_t)a.also;
+    memcpy(want, list, 4 * OQ3_WORDS * n);
+    for (i = 0; i < sizeof rooms / sizeof *rooms; i++) {
+        size_t at = 0, done = 0, most = rooms[i] / OQ3_WORDS;
+        bool good = true;
+        do {
+            oq3_run r;
+            memset(words, 0xA5, 4 * (GUARD + rooms[i] + GUARD));
+            r = oq3_cut_run(text, text_len, at, profile, list, rooms[i], u[XID_START].table, u[XID_START].words, u[XID_CONTINUE].table, u[XID_CONTINUE].words, u[EMOJI].table, u[EMOJI].words);
+            good = good && r.count == (n - done < most ? n - done : most) && framed(OQ3_WORDS * r.count, rooms[i]) && memcmp(list, want + OQ3_WORDS * done, 4 * OQ3_WORDS * r.count) == 0;
+            for (k = 0; good && k < r.count; k++)
+                at += list[3 * k + 1];
+            done += r.count;
+            good = good && r.at == at;
+        } while (good && done < n);
+        check(good && at == text_len, line, __LINE__);
+    }
+    check(fills(tokenize_rows, text, text_len, profile, want, n), line, __LINE__);
+    check(by_value(text, text_len, profile, OQ3_ROW, n <= OQ3_ROW ? a : answer(OQ3_ROOM_TOO_SMALL, n), want), line, __LINE__);
+}
+
 /* the tasks that write; whether the line is one */
 static bool writing(void) {
     uint32_t selector;
@@ -371,6 +840,8 @@ static bool writing(void) {
         a = oq3_tokenize(text, text_len, selector, list, OQ3_WORDS * text_len);
         say_records(a);
         check(tiles(a), line, __LINE__);
+        if (a.number == OQ3_DONE)
+            again(selector, a);
     } else if (task("unescape")) {
         selector = (uint32_t)number();
         text_len = hex(text);
@@ -382,6 +853,13 @@ static bool writing(void) {
         room = at_most(number(), WORDS);
         text_len = hex(text);
         say_room(task("tokroom") ? oq3_tokenize(text, text_len, selector, list, room) : oq3_unescape_literal(text, text_len, selector, list, room), room);
+    } else if (task("rowroom")) {
+        selector = (uint32_t)number();
+        room = at_most(number(), OQ3_ROW);
+        text_len = hex(text);
+        a = oq3_tokenize_rows(text, text_len, selector, (oq3_token *)list, room);
+        say_room(a, OQ3_WORDS * room);
+        check(by_value(text, text_len, selector, room, a, list), line, __LINE__);
     } else
         return false;
     return true;
@@ -407,6 +885,7 @@ static bool keying(void) {
     } else if (task("pair")) {
         static uint8_t second[KEY];
         oq3_answer b;
+        oq3_comparison c;
         profile = (uint32_t)number();
         text_len = hex(text);
         n = hex(other);
@@ -416,6 +895,11 @@ static bool keying(void) {
             say_answer(a.number != 0 ? a : b);
         else
             snprintf(said, sizeof said, a.also == b.also && memcmp(key, second, (size_t)a.also) == 0 ? "same" : "differ");
+        /* compared without keys: by the model, and by what the line says */
+        c = oq3_compare(text, text_len, other, n, profile);
+        check(found(c, model(text, text_len, other, n, profile)), line, __LINE__);
+        check(a.number != 0 ? c.verdict == OQ3_OLD_REFUSED : b.number != 0 ? c.verdict == OQ3_NEW_REFUSED : c.verdict == (strcmp(wanted, "same") == 0 ? OQ3_SAME : OQ3_DIFFERENT), line, __LINE__);
+        check(all_placed(text, text_len) && all_placed(other, n), line, __LINE__);
     } else
         return false;
     return true;
@@ -440,17 +924,22 @@ static bool reading(void) {
         say(oq3_characters_should_be_ascii(mode).also, " ");
         say(oq3_is_unicode_escape_disallowed(mode).also, " ");
         say(oq3_prefix_noraw(mode).also, " ");
+        check(oq3_is_single(mode) != oq3_in_double_quotes(mode).also && mode_is(mode, modes[mode]), line, __LINE__);
     } else if (task("cp")) {
         uint32_t c = (uint32_t)number();
         say(oq3_is_whitespace(c), "");
         say(oq3_is_id_start(c), " ");
         say(oq3_is_id_continue(c), " ");
+        say(oq3_is_emoji(c), " ");
+        say(oq3_is_white_space(c), " ");
+        check(oq3_is_xid_start(c) == has(properties + XID_START, c) && oq3_is_xid_continue(c) == has(properties + XID_CONTINUE, c), line, __LINE__);
     } else if (task("utf8")) {
         size_t n = hex(text), at = 0, count = 0;
         oq3_answer a = oq3_check_text(text, n);
         for (; a.number == 0 && at < n; count++)
             at += oq3_decode(text, n, at).wide;
         check(oq3_valid_up_to(text, n) == (a.number == 0 ? n : a.also), line, __LINE__);
+        check(all_read(text, n) && all_placed(text, n), line, __LINE__);
         say(a.number, "");
         say(a.number == 0 ? count : a.also, " ");
     } else
@@ -472,24 +961,28 @@ static void vectors(void) {
         }
         *want = 0;
         want += 3;
+        wanted = want;
         if (!writing() && !keying() && !reading()) {
             left++;
             continue;
         }
         lines++;
-        /* the last two of `cp` are no functions of this library */
-        check(task("cp") ? memcmp(said, want, strlen(said)) == 0 : strcmp(said, want) == 0, line, __LINE__);
+        check(strcmp(said, want) == 0, line, __LINE__);
     }
     printf("test: %lu lines of the vectors answered, %lu left out\n", lines, left);
 }
 
 int main(void) {
     lists();
+    values();
+    runs();
     refusals();
     nothing();
     too_long();
     keys();
+    comparisons();
     singles();
+    members();
     vectors();
     printf("%lu passed, %lu failed\n", passed, failed);
     return failed != 0 || passed == 0;

@@ -4,23 +4,42 @@
 ghost use mathlib.Core.Path.{_≡_};
 ghost use mathlib.Core.Bool.{true, false};
 ghost use Prim.Native.Nat.{_%_};
-ghost use Rattle.unicode.specs.Utf8.{validUpTo};
+ghost use lib.ListN.{drop};
+ghost use Rattle.unicode.specs.Utf8.{first, validUpTo};
 ghost use Rattle.unicode.specs.Text.{Decoded};
+ghost use Rattle.unicode.specs.Properties.{isXidStart, isXidContinue, isEmoji, isWhiteSpace, asciiStart, asciiContinue, asciiEmoji, asciiSpace, testedIn};
 ghost use Rattle.text.specs.Answer.{Answered, checkText, checkCut};
 ghost use Rattle.letters.specs.Chars.{isWhitespace, isIdStart, isIdContinue};
-ghost use Rattle.lexer.specs.Outcome.{Listed, identified};
-ghost use Rattle.modes.specs.Modes.{testedMode, inDoubleQuotes, charactersShouldBeAscii, isUnicodeEscapeDisallowed, hasPrefix};
+ghost use Rattle.lexer.specs.Unicode.{lent};
+ghost use Rattle.lexer.specs.Outcome.{Listed, CutRun, identified};
+ghost use Rattle.modes.specs.Modes.{testedMode, isSingle, inDoubleQuotes, charactersShouldBeAscii, isUnicodeEscapeDisallowed, hasPrefix, isRaw};
 ghost use Rattle.modes.specs.Errors.{fatal};
 ghost use Rattle.unescape.specs.Outcome.{Unescaped, part, single};
 ghost use Rattle.renewal.specs.Outcome.{Keyed};
+ghost use Rattle.rows.specs.Rows.{Rowed, Bridged};
+ghost use Rattle.same.specs.Compare.{Compared, compared};
+ghost use Rattle.same.specs.Places.{Placed, placeOf};
+use lexer::list::Run;
+use lexer::list::cut_run;
 use lexer::list::tokenize;
 use renewal::renewal_key;
+use rows::Row;
+use rows::Rows;
+use rows::Token;
+use rows::rows_of;
+use rows::tokenize_rows;
+use same::Comparison;
+use same::Place;
+use same::compare;
+use same::place_of;
 use text::Answer;
 use text::check_cut;
 use text::check_text;
 use unescape::unescape_literal;
 use unescape::unescape_part;
+use unicode::properties;
 use unicode::utf8::Char;
+use unicode::utf8::code;
 use unicode::utf8::decode;
 use unicode::utf8::valid_up_to;
 
@@ -30,6 +49,42 @@ pub extern "C" fn oq3_tokenize(text: &[u8], profile: u32, list: &mut [u32]) -> A
     ensures { λ r. ⌜ Listed (now (text .entry)) profile (now (list .entry)) (r .number) (r .also) (now (list .exit)) ⌝ }
 {
     tokenize(text, profile, list)
+}
+
+#[no_mangle]
+pub extern "C" fn oq3_tokenize_rows(text: &[u8], profile: u32, row: &mut [Token]) -> Answer
+    ensures { λ r. ⌜ Rowed (now (text .entry)) profile (now (row .entry)) (r .number) (r .also) (now (row .exit)) ⌝ }
+{
+    tokenize_rows(text, profile, row)
+}
+
+// A row of 64 records: C passes no array by value, and passes this.
+#[repr(C)]
+pub struct Records {
+    pub row: Row,
+}
+
+#[no_mangle]
+pub extern "C" fn oq3_rows_of(text: &[u8], profile: u32, row: Records, records: usize) -> Rows
+    ensures { λ r. ⌜ Bridged (now (text .entry)) profile records (row .row) (r .answer .number) (r .answer .also) (r .row) ⌝ }
+{
+    let given = row.row;
+    rows_of(text, profile, given, records)
+}
+
+#[no_mangle]
+pub extern "C" fn oq3_cut_run(
+    text: &[u8],
+    from: usize,
+    profile: u32,
+    list: &mut [u32],
+    start: &[u32],
+    more: &[u32],
+    emoji: &[u32],
+) -> Run
+    ensures { λ r. ⌜ CutRun (lent (now (start .entry)) (now (more .entry)) (now (emoji .entry))) profile (now (text .entry)) from (now (list .entry)) (r .at) (r .count) (now (list .exit)) ⌝ }
+{
+    cut_run(text, from, profile, list, start, more, emoji)
 }
 
 #[no_mangle]
@@ -66,6 +121,21 @@ pub extern "C" fn oq3_renewal_key(text: &[u8], profile: u32, key: &mut [u8]) -> 
     ensures { λ r. ⌜ Keyed (now (text .entry)) profile (now (key .entry)) (r .number) (r .also) (now (key .exit)) ⌝ }
 {
     renewal_key(text, profile, key)
+}
+
+// ---- two texts compared
+#[no_mangle]
+pub extern "C" fn oq3_compare(old: &[u8], new: &[u8], profile: u32) -> Comparison
+    ensures { λ r. ⌜ Compared (compared profile (now (old .entry)) (now (new .entry))) (r .verdict) (r .refusal .number) (r .refusal .also) (r .agreed) (r .old .kind) (r .old .start) (r .old .len) (r .new .kind) (r .new .start) (r .new .len) ⌝ }
+{
+    compare(old, new, profile)
+}
+
+#[no_mangle]
+pub extern "C" fn oq3_place_of(text: &[u8], at: usize) -> Place
+    ensures { λ r. ⌜ Placed (placeOf (now (text .entry)) at) (r .line) (r .column) ⌝ }
+{
+    place_of(text, at)
 }
 
 // ---- the bodies of literals
@@ -139,6 +209,34 @@ pub extern "C" fn oq3_prefix_noraw(mode: u32) -> Answer
 }
 
 #[no_mangle]
+pub extern "C" fn oq3_is_single(mode: u32) -> bool
+    ensures { λ r. ⌜ r ≡ isSingle mode ⌝ }
+{
+    modes::is_single(mode)
+}
+
+#[no_mangle]
+pub extern "C" fn oq3_is_ascii_only(mode: u32) -> bool
+    ensures { λ r. ⌜ r ≡ charactersShouldBeAscii mode ⌝ }
+{
+    modes::is_ascii_only(mode)
+}
+
+#[no_mangle]
+pub extern "C" fn oq3_has_prefix(mode: u32) -> bool
+    ensures { λ r. ⌜ r ≡ hasPrefix mode ⌝ }
+{
+    modes::has_prefix(mode)
+}
+
+#[no_mangle]
+pub extern "C" fn oq3_is_raw(mode: u32) -> bool
+    ensures { λ r. ⌜ r ≡ isRaw mode ⌝ }
+{
+    modes::is_raw(mode)
+}
+
+#[no_mangle]
 pub extern "C" fn oq3_is_fatal(error: u32) -> Answer
     ensures { λ r. ⌜ Answered (fatal error) (r .number) (r .also) ⌝ }
 {
@@ -172,4 +270,68 @@ pub extern "C" fn oq3_decode(text: &[u8], at: usize) -> Char
     ensures { λ r. ⌜ Decoded (now (text .entry)) at (r .code) (r .wide) ⌝ }
 {
     decode(text, at)
+}
+
+#[no_mangle]
+pub extern "C" fn oq3_code(text: &[u8], at: usize) -> u32
+    ensures { λ r. ⌜ r ≡ first (drop at (now (text .entry))) .0 ⌝ }
+{
+    code(text, at)
+}
+
+// ---- the properties of a character
+#[no_mangle]
+pub extern "C" fn oq3_is_xid_start(c: u32) -> bool
+    ensures { λ r. ⌜ r ≡ isXidStart c ⌝ }
+{
+    properties::is_xid_start(c)
+}
+
+#[no_mangle]
+pub extern "C" fn oq3_is_xid_start_in(table: &[u32], c: u32) -> bool
+    ensures { λ r. ⌜ r ≡ testedIn asciiStart (now (table .entry)) c ⌝ }
+{
+    properties::is_xid_start_in(table, c)
+}
+
+#[no_mangle]
+pub extern "C" fn oq3_is_xid_continue(c: u32) -> bool
+    ensures { λ r. ⌜ r ≡ isXidContinue c ⌝ }
+{
+    properties::is_xid_continue(c)
+}
+
+#[no_mangle]
+pub extern "C" fn oq3_is_xid_continue_in(table: &[u32], c: u32) -> bool
+    ensures { λ r. ⌜ r ≡ testedIn asciiContinue (now (table .entry)) c ⌝ }
+{
+    properties::is_xid_continue_in(table, c)
+}
+
+#[no_mangle]
+pub extern "C" fn oq3_is_emoji(c: u32) -> bool
+    ensures { λ r. ⌜ r ≡ isEmoji c ⌝ }
+{
+    properties::is_emoji(c)
+}
+
+#[no_mangle]
+pub extern "C" fn oq3_is_emoji_in(table: &[u32], c: u32) -> bool
+    ensures { λ r. ⌜ r ≡ testedIn asciiEmoji (now (table .entry)) c ⌝ }
+{
+    properties::is_emoji_in(table, c)
+}
+
+#[no_mangle]
+pub extern "C" fn oq3_is_white_space(c: u32) -> bool
+    ensures { λ r. ⌜ r ≡ isWhiteSpace c ⌝ }
+{
+    properties::is_white_space(c)
+}
+
+#[no_mangle]
+pub extern "C" fn oq3_is_white_space_in(table: &[u32], c: u32) -> bool
+    ensures { λ r. ⌜ r ≡ testedIn asciiSpace (now (table .entry)) c ⌝ }
+{
+    properties::is_white_space_in(table, c)
 }

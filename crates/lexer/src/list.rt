@@ -15,6 +15,7 @@ use text::check_cut;
 use unicode::tables;
 
 // The place behind a run of tokens, and how many they are.
+#[repr(C)]
 pub struct Run {
     pub at: usize,
     pub count: usize,
