@@ -203,6 +203,19 @@ typedef struct oq3_run {
 oq3_run oq3_cut_run(const uint8_t *text, size_t text_len, size_t from, uint32_t profile, uint32_t *list, size_t words, const uint32_t *start,
                     size_t start_words, const uint32_t *more, size_t more_words, const uint32_t *emoji, size_t emoji_words);
 
+/* A token by its places in the text: where its suffix starts (its end, for a literal with none; its own start, for all else), and its end. */
+typedef struct oq3_piece {
+    uint32_t kind;
+    size_t mark;
+    size_t end;
+} oq3_piece;
+
+/*
+ * The token at the byte `at`, as a run of one, with the same tables. Where a run gives no token kind is 0, which is no token's, and mark and end are `at`.
+ */
+oq3_piece oq3_token_at(const uint8_t *text, size_t text_len, size_t at, uint32_t profile, const uint32_t *start, size_t start_words,
+                       const uint32_t *more, size_t more_words, const uint32_t *emoji, size_t emoji_words);
+
 /* Tests on a character, by its number. No for a number that is no Unicode scalar value. */
 bool oq3_is_whitespace(uint32_t c);
 bool oq3_is_id_start(uint32_t c);

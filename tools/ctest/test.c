@@ -248,6 +248,11 @@ static bool holds_words(size_t n, size_t room, const uint32_t *want) {
     return framed(n, room) && clean(room, 0) && memcmp(list, want, 4 * n) == 0;
 }
 
+static bool piece(const uint8_t *text, size_t len, size_t at, uint32_t profile, letters u, uint32_t kind, size_t mark, size_t end) {
+    oq3_piece p = oq3_token_at(text, len, at, profile, u.start, u.starts, u.more, u.mores, u.emoji, u.emojis);
+    return p.kind == kind && p.mark == mark && p.end == end;
+}
+
 static void runs(void) {
     /* theta, alpha to omega, and theta as an emoji */
     static const uint32_t theta[] = {0x3B8, 0x3B8}, greek[] = {0x3B1, 0x3C9};
@@ -286,6 +291,11 @@ static void runs(void) {
     CHECK(ran(cut(BYTES("pragma"), 6, 0, 1, 9, no), 6, 1) && holds_words(3, 9, lines));
     CHECK(ran(cut(BYTES("pragma"), 6, 0, 2, 9, no), 6, 1) && holds_words(3, 9, named));
     CHECK(ran(cut(BYTES("pragma"), 6, 0, UINT32_MAX, 9, no), 6, 1) && holds_words(3, 9, named));
+    /* one token by its places: a literal's suffix, a literal with none, and what is no literal */
+    CHECK(piece(BYTES(";12cm"), 5, 1, 0, no, 44, 3, 5) && piece(semis, 5, 3, 0, no, 44, 4, 4) && piece(semis, 5, 1, 0, no, 5, 1, 2));
+    CHECK(piece(two, 4, 0, 0, no, 37, 0, 2) && piece(two, 4, 0, 0, both, 5, 0, 4) && piece(two, 4, 1, 0, no, 37, 1, 2));
+    CHECK(piece(BYTES("pragma"), 6, 0, 1, no, 8, 0, 6) && piece(BYTES("pragma"), 6, 0, 2, no, 5, 0, 6));
+    CHECK(piece(semis, 5, 5, 0, no, 0, 5, 5) && piece(semis, 5, SIZE_MAX, 0, no, 0, SIZE_MAX, SIZE_MAX) && piece(NULL, 0, 0, 0, no, 0, 0, 0));
 }
 
 /* each refusal, in the order of the checks, and nothing written */
@@ -802,7 +812,20 @@ static void body(void) {
     say_records(oq3_unescape_part(text, text_len, at + 1, end, mode, list, OQ3_WORDS * (text_len + 1)));
 }
 
-/* the n tokens that were given, by runs over the tables of the properties, with little room and with much; as rows; and by value */
+/* the n tokens that were given, one by one: of what is no literal, and so has the suffix start 0, the mark is its own start */
+static bool by_places(uint32_t profile, const uint32_t *want, size_t n) {
+    const property *u = properties;
+    size_t at = 0, i;
+    for (i = 0; i < n; i++) {
+        oq3_piece p = oq3_token_at(text, text_len, at, profile, u[XID_START].table, u[XID_START].words, u[XID_CONTINUE].table, u[XID_CONTINUE].words, u[EMOJI].table, u[EMOJI].words);
+        if (p.kind != want[3 * i] || p.end != at + want[3 * i + 1] || p.mark != at + want[3 * i + 2])
+            return false;
+        at = p.end;
+    }
+    return at == text_len;
+}
+
+/* the n tokens that were given, by runs over the tables of the properties, with little room and with much; one by one; as rows; and by value */
 static void again(uint32_t profile, oq3_answer a) {
     static const size_t rooms[] = {3, 8, 30, WORDS};
     static uint32_t want[WORDS];
@@ -824,6 +847,7 @@ static void again(uint32_t profile, oq3_answer a) {
         } while (good && done < n);
         check(good && at == text_len, line, __LINE__);
     }
+    check(by_places(profile, want, n), line, __LINE__);
     check(fills(tokenize_rows, text, text_len, profile, want, n), line, __LINE__);
     check(by_value(text, text_len, profile, OQ3_ROW, n <= OQ3_ROW ? a : answer(OQ3_ROOM_TOO_SMALL, n), want), line, __LINE__);
 }

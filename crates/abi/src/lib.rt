@@ -1,6 +1,5 @@
 // The names that C and Rust link: each function is one call, under the promise of the function that it calls.
-// include/oq3.h declares them. advance_token has no such name: a list of its tokens is what a caller gets, and each further caller of it in
-// one archive makes the others slower (docs/PERFORMANCE.md).
+// include/oq3.h declares them.
 ghost use mathlib.Core.Path.{_≡_};
 ghost use mathlib.Core.Bool.{true, false};
 ghost use Prim.Native.Nat.{_%_};
@@ -11,7 +10,7 @@ ghost use Rattle.unicode.specs.Properties.{isXidStart, isXidContinue, isEmoji, 
 ghost use Rattle.text.specs.Answer.{Answered, checkText, checkCut};
 ghost use Rattle.letters.specs.Chars.{isWhitespace, isIdStart, isIdContinue};
 ghost use Rattle.lexer.specs.Unicode.{lent};
-ghost use Rattle.lexer.specs.Outcome.{Listed, CutRun, identified};
+ghost use Rattle.lexer.specs.Outcome.{Listed, CutRun, TokenAt, identified};
 ghost use Rattle.modes.specs.Modes.{testedMode, isSingle, inDoubleQuotes, charactersShouldBeAscii, isUnicodeEscapeDisallowed, hasPrefix, isRaw};
 ghost use Rattle.modes.specs.Errors.{fatal};
 ghost use Rattle.unescape.specs.Outcome.{Unescaped, part, single};
@@ -19,8 +18,10 @@ ghost use Rattle.renewal.specs.Outcome.{Keyed};
 ghost use Rattle.rows.specs.Rows.{Rowed, Bridged};
 ghost use Rattle.same.specs.Compare.{Compared, compared};
 ghost use Rattle.same.specs.Places.{Placed, placeOf};
+use lexer::list::Piece;
 use lexer::list::Run;
 use lexer::list::cut_run;
+use lexer::list::token_at;
 use lexer::list::tokenize;
 use renewal::renewal_key;
 use rows::Row;
@@ -85,6 +86,20 @@ pub extern "C" fn oq3_cut_run(
     ensures { λ r. ⌜ CutRun (lent (now (start .entry)) (now (more .entry)) (now (emoji .entry))) profile (now (text .entry)) from (now (list .entry)) (r .at) (r .count) (now (list .exit)) ⌝ }
 {
     cut_run(text, from, profile, list, start, more, emoji)
+}
+
+#[no_mangle]
+pub extern "C" fn oq3_token_at(
+    text: &[u8],
+    at: usize,
+    profile: u32,
+    start: &[u32],
+    more: &[u32],
+    emoji: &[u32],
+) -> Piece
+    ensures { λ r. ⌜ TokenAt (lent (now (start .entry)) (now (more .entry)) (now (emoji .entry))) profile (now (text .entry)) at (r .kind) (r .mark) (r .end) ⌝ }
+{
+    token_at(text, at, profile, start, more, emoji)
 }
 
 #[no_mangle]
