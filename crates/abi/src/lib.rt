@@ -1,6 +1,6 @@
-// The names that C and Rust link: each function is one call, under the promise of the function that it calls.
-// include/oq3.h declares them. advance_token has no such name: a list of its tokens is what a caller gets, and each further caller of it in
-// one archive makes the others slower (docs/PERFORMANCE.md).
+// The names that C and Rust link, one for each public function of the libraries but advance_token: each is one call, under the promise of the function
+// that it calls. include/oq3.h declares them. advance_token has none: a list or a run of its tokens is what a caller gets, and each further caller of
+// it in one archive makes the others slower (docs/PERFORMANCE.md).
 ghost use mathlib.Core.Path.{_≡_};
 ghost use mathlib.Core.Bool.{true, false};
 ghost use Prim.Native.Nat.{_%_};
