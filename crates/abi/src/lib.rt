@@ -1,5 +1,5 @@
-// The names that C and Rust link: each function is one call, under the promise of the function that it calls.
-// include/oq3.h declares them.
+// The names that C and Rust link, one for each public function of the libraries: each is one call, under the promise of the function that it
+// calls. include/oq3.h declares them.
 ghost use mathlib.Core.Path.{_≡_};
 ghost use mathlib.Core.Bool.{true, false};
 ghost use Prim.Native.Nat.{_%_};
