@@ -3,12 +3,13 @@
 use Prim.Native.Nat.{ℕ, suc, _+_, _-_, _*_, _/_, _%_, _≤_, _<_, min}
 use native.Mathlib.Decide.{ℕ-discrete}
 use native.Mathlib.Omega.{arith}
+use native.Mathlib.Nat.{add-zero}
 use native.Mathlib.Numerals.{add-one, add-two, add-three}
 use mathlib.Core.Path.{_≡_, refl, ap, sym, _∙_}
 use mathlib.Core.Bool.{Bool, true, false}
 use mathlib.Core.List.{List, [], _∷_, _++_}
 use lib.ListN.{length, take, drop, set, getD, length-set, length-append, length-take, length-drop, drop-of-length-le, take-append-drop}
-use lib.Seq.{sets, drop-cons, drop-drop, take-all, take-add}
+use lib.Seq.{sets, set-set, drop-cons, drop-drop, drop-at, take-take, length-take-le, take-all, take-add}
 use borrow.Author.Tests.{eq-eqb, ne-eqb}
 use Rattle.lists.proofs.Bools.{on-cond}
 use Rattle.lists.specs.Put.{Put, PutIf}
@@ -37,10 +38,6 @@ pub put-four : {out out′ : List ℕ} (part : List ℕ) (i : ℕ) {k r : ℕ} �
 put-four {out} {out′} part i {k} {r} h u v =
     rw (four part i h) (record { same = u ∙ rw (add-one k, add-two k, add-three k); next = v; long = ap length u ∙ simp length-set })
 
--- and four more behind them
-pub four-then : {out out′ : List ℕ} (part : List ℕ) (i : ℕ) {k r : ℕ} → Put out k (take 4 (drop i part)) out′ r → i + 4 ≤ length part → k + 8 ≤ length out → r + 4 ≤ length out′
-four-then part i p h g = omega (arith, p .next, p .long, length-take 4 (drop i part), length-drop i part)
-
 -- the bytes of a list of one, two or three
 module _ (part : List ℕ) where
   rest : (i : ℕ) → i < length part → drop i part ≡ getD part i 0 ∷ drop (suc i) part
@@ -49,37 +46,60 @@ module _ (part : List ℕ) where
   none : (i : ℕ) → length part ≡ i → drop i part ≡ []
   none i e = drop-of-length-le part {i = i} (omega arith)
 
-  pub put-few-1 : {out out′ : List ℕ} {k r : ℕ} → length part ≡ 1 → out′ ≡ set out k (getD part 0 0) → r ≡ k + 1 → Put out k part out′ r
-  put-few-1 e u v =
+  few-1 : (out : List ℕ) (k : ℕ) → length part ≡ 1 → set (set (set out k (getD part 0 0)) (k + 0) (getD part 0 0)) (k + 0) (getD part 0 0) ≡ sets out k part
+  few-1 out k e =
       let l : part ≡ getD part 0 0 ∷ [] = rest 0 (omega arith) ∙ (rw (none 1 e)) in
-      rw l (put-one u v)
+      let x = getD part 0 0 in
+      rw (add-zero k) (ap (λ (y : List ℕ). set y k x) (set-set out k x x) ∙ set-set out k x x ∙ ap (sets out k) (sym l))
 
-  pub put-few-2 : {out out′ : List ℕ} {k r : ℕ} → length part ≡ 2 → out′ ≡ set (set out k (getD part 0 0)) (k + 1) (getD part 1 0) → r ≡ k + 2 → Put out k part out′ r
-  put-few-2 {out} {out′} {k} e u v =
+  few-2 : (out : List ℕ) (k : ℕ) → length part ≡ 2 → set (set (set out k (getD part 0 0)) (k + 1) (getD part 1 0)) (k + 1) (getD part 1 0) ≡ sets out k part
+  few-2 out k e =
       let l : part ≡ getD part 0 0 ∷ getD part 1 0 ∷ [] = rest 0 (omega arith) ∙ (rw (rest 1 (omega arith), none 2 e)) in
-      record { same = u ∙ rw (l, add-one k); next = rw e v; long = ap length u ∙ simp length-set }
+      let x = getD part 0 0 in
+      let y = getD part 1 0 in
+      set-set (set out k x) (k + 1) y y ∙ rw (add-one k) (ap (sets out k) (sym l))
 
-  pub put-few-3 : {out out′ : List ℕ} {k r : ℕ} → 1 ≤ length part → length part ≤ 3 → (length part ≡ 1 → ⊥) → (length part ≡ 2 → ⊥) → out′ ≡ set (set (set out k (getD part 0 0)) (k + 1) (getD part 1 0)) (k + 2) (getD part 2 0) → r ≡ k + 3 → Put out k part out′ r
-  put-few-3 {out} {out′} {k} h g n m u v =
-      let e : length part ≡ 3 = omega arith in
+  few-3 : (out : List ℕ) (k : ℕ) → length part ≡ 3 → set (set (set out k (getD part 0 0)) (k + 1) (getD part 1 0)) (k + 2) (getD part 2 0) ≡ sets out k part
+  few-3 out k e =
       let l : part ≡ getD part 0 0 ∷ getD part 1 0 ∷ getD part 2 0 ∷ [] = rest 0 (omega arith) ∙ (rw (rest 1 (omega arith), rest 2 (omega arith), none 3 e)) in
-      record { same = u ∙ rw (l, add-one k, add-two k); next = rw e v; long = ap length u ∙ simp length-set }
+      rw (add-one k, add-two k) (ap (sets out k) (sym l))
 
-  -- the last four
-  last : (i : ℕ) → i + 4 ≡ length part → take 4 (drop i part) ≡ drop i part
-  last i e = take-all 4 (drop i part) (omega (arith, length-drop i part))
+  few : (out : List ℕ) (k m e : ℕ) → 1 ≤ length part → length part ≤ 3 → m ≡ length part / 2 → e ≡ length part - 1 → set (set (set out k (getD part 0 0)) (k + m) (getD part m 0)) (k + e) (getD part e 0) ≡ sets out k part
+  few out k m e h g u v =
+      elim (ℕ-discrete (length part) 1) [
+        | yes l ↦ let a : m ≡ 0 = omega arith in let b : e ≡ 0 = omega arith in rw (a, b) (few-1 out k l)
+        | no n₁ ↦ elim (ℕ-discrete (length part) 2) [
+          | yes l ↦ let a : m ≡ 1 = omega arith in let b : e ≡ 1 = omega arith in rw (a, b) (few-2 out k l)
+          | no n₂ ↦ let a : m ≡ 1 = omega arith in let b : e ≡ 2 = omega arith in rw (a, b) (few-3 out k (omega arith))
+        ]
+      ]
 
-  pub put-fours : {out out₁ out₂ : List ℕ} {k k₁ r : ℕ} → 4 ≤ length part → length part < 8 → Put out k (take 4 (drop 0 part)) out₁ k₁ → Put out₁ (k + (length part - 4)) (take 4 (drop (length part - 4) part)) out₂ r → Put out k part out₂ r
-  put-fours h g p q = put-both part 4 h (omega arith) p (rw (last (length part - 4) (omega arith)) at q) refl
+  pub put-few : {out out′ : List ℕ} {k m e r : ℕ} → 1 ≤ length part → length part ≤ 3 → m ≡ length part / 2 → e ≡ length part - 1 → out′ ≡ set (set (set out k (getD part 0 0)) (k + m) (getD part m 0)) (k + e) (getD part e 0) → r ≡ k + length part → Put out k part out′ r
+  put-few {out} {out′} {k} {m} {e} {r} h g u v w x = record { same = w ∙ few out k m e h g u v; next = x; long = ap length w ∙ simp length-set }
 
-  pub put-eights : {out out₁ out₂ out₃ out₄ : List ℕ} {k k₁ k₂ k₃ r : ℕ} → 8 ≤ length part → length part ≤ 16 → Put out k (take 4 (drop 0 part)) out₁ k₁ → Put out₁ k₁ (take 4 (drop 4 part)) out₂ k₂
-      → Put out₂ (k + (length part - 8)) (take 4 (drop (length part - 8) part)) out₃ k₃ → Put out₃ k₃ (take 4 (drop (length part - 4) part)) out₄ r → Put out k part out₄ r
-  put-eights h g p q p′ q′ =
-      let n = length part - 8 in
-      let far : drop 4 (drop n part) ≡ drop (length part - 4) part = drop-drop 4 n part ∙ (let e : n + 4 ≡ length part - 4 = omega arith in rw e) in
-      let end : drop n part ≡ take 4 (drop n part) ++ take 4 (drop (length part - 4) part) =
-      sym (take-append-drop 4 (drop n part)) ∙ rw (far, last (length part - 4) (omega arith)) in
-      put-both part 8 h (omega arith) (put-then p q (take-add 4 4 part)) (put-then p′ q′ end) refl
+  some-end : (i e : ℕ) → i + e ≤ length part → drop e (take (e + 4) (drop i part)) ≡ take 4 (drop (i + e) part)
+  some-end i e h =
+      let l = drop i part in
+      ap (drop e) (take-add e 4 l) ∙ drop-at (take e l) (take 4 (drop e l)) e (length-take-le e l (omega (arith, length-drop i part))) ∙ ap (take 4) (drop-drop e i part)
+
+  -- four to eight
+  pub put-some : {out out₁ out₂ : List ℕ} (i m : ℕ) {e j k k₁ k₂ r : ℕ} → 4 ≤ m → m ≤ 8 → i + m ≤ length part → e ≡ m - 4 → Put out k (take 4 (drop i part)) out₁ k₁ → k₂ ≡ k + e → j ≡ i + e → Put out₁ k₂ (take 4 (drop j part)) out₂ r → Put out k (take m (drop i part)) out₂ r
+  put-some {out} {out₁} {out₂} i m {e} {j} {k} {k₁} {k₂} {r} h g l u p v w q =
+      let t = take m (drop i part) in
+      let n : length t ≡ m = length-take-le m (drop i part) (omega (arith, length-drop i part)) in
+      let a : take 4 t ≡ take 4 (drop i part) = take-take 4 m (drop i part) h in
+      let x : length t - 4 ≡ e = omega (arith, n) in
+      let y : m ≡ e + 4 = omega arith in
+      let b : drop (length t - 4) t ≡ take 4 (drop j part) = rw (x, y, w) (some-end i e (omega arith)) in
+      let p′ : Put out k (take 4 t) out₁ k₁ = rw a p in
+      let q′ : Put out₁ k₂ (drop (length t - 4) t) out₂ r = rw b q in
+      put-both t 4 (omega (arith, n)) (omega (arith, n)) p′ q′ (omega (arith, n))
+
+  -- both ends of the whole
+  pub put-ends : {out out₁ out₂ : List ℕ} (i m : ℕ) {k k₁ k₂ r : ℕ} → m ≤ length part → length part ≤ 2 * m → i ≡ length part - m → Put out k (take m (drop 0 part)) out₁ k₁ → k₂ ≡ k + i → Put out₁ k₂ (take m (drop i part)) out₂ r → Put out k part out₂ r
+  put-ends i m h g e p v q =
+      let l : take m (drop i part) ≡ drop i part = take-all m (drop i part) (omega (arith, length-drop i part)) in
+      put-both part m h g p (rw e at (rw l at q)) (omega arith)
 
 -- ---- text records stored one by one
 pub record Texting (out₀ : List ℕ) (k₀ : ℕ) (text out : List ℕ) (i k : ℕ) : Type 0 where

@@ -1,7 +1,7 @@
 // The records of the key, written into lent bytes.
 ghost use mathlib.Core.Path.{_≡_};
 ghost use mathlib.Core.List.{[], _∷_, _++_};
-ghost use Prim.Native.Nat.{_+_, _≤_, min};
+ghost use Prim.Native.Nat.{_+_, _*_, _≤_, min};
 ghost use lib.ListN.{length, take, drop};
 ghost use Rattle.lists.specs.Put.{Put, PutIf};
 ghost use Rattle.text.specs.Answer.{longest};
@@ -49,24 +49,39 @@ fn put_four(key: &mut [u8], k: usize, part: &[u8], i: usize) -> usize
     k + 4
 }
 
-// One to three bytes.
+// Four to eight bytes of a part, from its place i on: the first four and the last, which may overlap.
+fn put_some(key: &mut [u8], k: usize, part: &[u8], i: usize, m: usize) -> usize
+    requires { ⌜ (4 ≤ m) × (m ≤ 8) × (k + m ≤ length (now key)) × (i + m ≤ length (now part)) ⌝ }
+    ensures { λ r. ⌜ Put (now (key .entry)) k (take m (drop i (now (part .entry)))) (now (key .exit)) r ⌝ }
+{
+    let e = m - 4;
+    put_four(key, k, part, i);
+    put_four(key, k + e, part, i + e)
+}
+
+// One to three bytes: the first, the middle and the last, which may be one.
 fn put_few(key: &mut [u8], k: usize, part: &[u8]) -> usize
     requires { ⌜ (1 ≤ length (now part)) × (length (now part) ≤ 3) × (k + length (now part) ≤ length (now key)) ⌝ }
     ensures { λ r. ⌜ Put (now (key .entry)) k (now (part .entry)) (now (key .exit)) r ⌝ }
 {
+    let n = part.len();
+    let m = n / 2;
+    let e = n - 1;
     key[k] = part[0];
-    if part.len() == 1 {
-        return k + 1;
-    }
-    key[k + 1] = part[1];
-    if part.len() == 2 {
-        return k + 2;
-    }
-    key[k + 2] = part[2];
-    k + 3
+    key[k + m] = part[m];
+    key[k + e] = part[e];
+    k + n
 }
 
-// One to sixteen bytes, with no loop: the first four or eight and the last four or eight, which may overlap.
+// How many bytes the first and the last of four to sixteen bytes are, that together are all.
+fn half(n: usize) -> usize
+    requires { ⌜ (4 ≤ n) × (n ≤ 16) ⌝ }
+    ensures { λ r. ⌜ (4 ≤ r) × (r ≤ 8) × (r ≤ n) × (n ≤ 2 * r) ⌝ }
+{
+    if n < 8 { 4 } else { 8 }
+}
+
+// One to sixteen bytes, with no loop and no jump but one: how long a name is cannot be foreseen, and a wrong guess costs more than a store.
 fn put_bytes(key: &mut [u8], k: usize, part: &[u8]) -> usize
     requires { ⌜ (1 ≤ length (now part)) × (length (now part) ≤ 16) × (k + length (now part) ≤ length (now key)) ⌝ }
     ensures { λ r. ⌜ Put (now (key .entry)) k (now (part .entry)) (now (key .exit)) r ⌝ }
@@ -75,14 +90,10 @@ fn put_bytes(key: &mut [u8], k: usize, part: &[u8]) -> usize
     if n < 4 {
         return put_few(key, k, part);
     }
-    if n < 8 {
-        put_four(key, k, part, 0);
-        return put_four(key, k + (n - 4), part, n - 4);
-    }
-    let a = put_four(key, k, part, 0);
-    put_four(key, a, part, 4);
-    let b = put_four(key, k + (n - 8), part, n - 8);
-    put_four(key, b, part, n - 4)
+    let m = half(n);
+    let i = n - m;
+    put_some(key, k, part, 0, m);
+    put_some(key, k + i, part, i, m)
 }
 
 // How many bytes the next text record holds, where so many are left.

@@ -5,6 +5,7 @@ pub mod Text
 pub mod Ascii
 pub mod Valid
 pub mod Reading
+pub mod Blocks
 pub mod Search
 pub mod Rising
 pub mod Member

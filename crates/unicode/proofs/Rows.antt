@@ -178,7 +178,7 @@ pub record In (lo hi b : ℕ) : Type 0 where
   pub over : lo ≤ b
   pub under : b ≤ hi
 
-in-range : (lo hi b : ℕ) → inRange b (lo to hi) ≡ true → In lo hi b
+pub in-range : (lo hi b : ℕ) → inRange b (lo to hi) ≡ true → In lo hi b
 in-range lo hi b e =
     let h = both (leb lo b) (leb b hi) e in
     record { over = leb-true lo b (h .0); under = leb-true b hi (h .1) }

@@ -2,9 +2,9 @@
 -- the end of the text counting as 0, which no row of the table has behind a first byte. `proofs/Rows.antt` proves that this is the table.
 -- Assumes nothing.
 use mathlib.Core.Path.{_≡_}
-use mathlib.Core.Bool.{Bool, _&&_, cond}
-use Prim.Native.Nat.{ℕ, _+_, _*_, _%_}
-use lib.Dec.{eqb}
+use mathlib.Core.Bool.{Bool, true, false, _&&_, cond}
+use Prim.Native.Nat.{ℕ, _+_, _*_, _%_, _≤_, _<_}
+use lib.Dec.{eqb, ltb}
 use Rattle.unicode.specs.Ranges.{_to_, inRange}
 use Rattle.unicode.specs.Utf8.{noChar}
 
@@ -35,3 +35,19 @@ four a b c d =
     cond (inRange b (low a to high a) && (follows c && follows d))
     (((a % 8 * 64 + b % 64) * 64 + c % 64) * 64 + d % 64, 4)
     (noChar a, 1)
+
+-- ---- a byte by the three before it
+-- no character that begins at one of three bytes reaches past them, by how many bytes its first byte asks for
+abbrev pub free : ℕ → ℕ → ℕ → Bool
+free a b c = ltb c 0xC0 && (ltb b 0xE0 && ltb a 0xF0)
+
+-- what d counts for behind a, b and c: no less than itself, and more than F4 where it may not stand there
+pub record Stood (a b c d r : ℕ) : Type 0 where
+  pub most : d ≤ r
+  pub begins : free a b c ≡ true → r ≤ 0xF4 → 0x7F < d → 0xC1 < d
+  pub over : free a b c ≡ false → r ≤ 0xF4 → low c ≤ d
+  pub under : free a b c ≡ false → r ≤ 0xF4 → d ≤ high c
+
+-- how many of 32 bytes whole characters take, by the last three
+unfoldable pub whole : ℕ → ℕ → ℕ → ℕ
+whole b c d = cond (ltb d 0xC0) (cond (ltb c 0xE0) (cond (ltb b 0xF0) 32 29) 30) 31

@@ -3,7 +3,7 @@ ghost use mathlib.Core.Path.{_≡_};
 ghost use Prim.Native.Nat.{ℕ, _+_, _≤_, _<_, min};
 ghost use lib.ListN.{length, getD, drop};
 ghost use Rattle.unicode.specs.Utf8.{first, noChar, validUpTo};
-ghost use Rattle.unicode.specs.Wide.{Reads, low, high, two, three, four};
+ghost use Rattle.unicode.specs.Wide.{Reads, low, high, two, three, four, free, Stood, whole};
 ghost use Rattle.unicode.specs.Text.{Decoded, Passed};
 use crate::ranges::in_range;
 
@@ -184,6 +184,93 @@ fn skip_blocks(text: &[u8], from: usize) -> usize
     at
 }
 
+// Whether no character that begins at one of these three bytes reaches past them.
+fn is_free(a: u8, b: u8, c: u8) -> bool
+    ensures { λ r. ⌜ r ≡ free a b c ⌝ }
+{
+    if 0xC0 <= c {
+        return false;
+    }
+    if 0xE0 <= b {
+        return false;
+    }
+    a < 0xF0
+}
+
+// What a byte d counts for behind a, b and c: itself where it may stand there, else 255.
+fn stand(a: u8, b: u8, c: u8, d: u8) -> u8
+    ensures { λ r. ⌜ Stood a b c d r ⌝ }
+{
+    if is_free(a, b, c) {
+        if in_range(0x80, 0xC1, d) {
+            return 255;
+        }
+        return d;
+    }
+    if in_range(low_of(c), high_of(c), d) {
+        d
+    } else {
+        255
+    }
+}
+
+// The largest of what the 32 bytes behind the first three from a place on count for, each behind the three before it: a loop that compiles to vector
+// instructions.
+fn stands(text: &[u8], at: usize) -> u8
+    requires { ⌜ at + 35 ≤ length (now text) ⌝ }
+    ensures { λ r. ⌜ ((k : ℕ) → k < 32 → Stood (getD (now (text .entry)) (at + k) 0) (getD (now (text .entry)) (at + k + 1) 0) (getD (now (text .entry)) (at + k + 2) 0) (getD (now (text .entry)) (at + k + 3) 0) r) ⌝ }
+{
+    let mut m: u8 = 0;
+    let mut i: usize = 0;
+    while i < BLOCK {
+        let v = stand(
+            text[at + i],
+            text[at + i + 1],
+            text[at + i + 2],
+            text[at + i + 3],
+        );
+        if m < v {
+            m = v;
+        }
+        i = i + 1;
+    }
+    m
+}
+
+// How many of 32 bytes whole characters take, by the last three.
+fn whole_of(b: u8, c: u8, d: u8) -> usize
+    ensures { λ r. ⌜ (r ≡ whole b c d) × (r ≤ 32) ⌝ }
+{
+    if 0xC0 <= d {
+        return 31;
+    }
+    if 0xE0 <= c {
+        return 30;
+    }
+    if 0xF0 <= b { 29 } else { 32 }
+}
+
+// Past a block of 32 bytes that is well-formed, to the end of its last whole character; else nowhere. What stands before it is read too.
+fn skip_wide(text: &[u8], from: usize) -> usize
+    requires { ⌜ from ≤ length (now text) ⌝ }
+    ensures { λ r. ⌜ Passed (now (text .entry)) from r ⌝ }
+{
+    if from < 3 {
+        return from;
+    }
+    if text.len() - from < BLOCK {
+        return from;
+    }
+    let at = from - 3;
+    if !is_free(text[at], text[at + 1], text[at + 2]) {
+        return from;
+    }
+    if 0xF4 < stands(text, at) {
+        return from;
+    }
+    from + whole_of(text[at + 32], text[at + 33], text[at + 34])
+}
+
 // Character by character to `stop` or past it, or to the first that is none.
 fn skip_chars(text: &[u8], from: usize, stop: usize) -> usize
     requires { ⌜ (from ≤ length (now text)) × (stop ≤ length (now text)) ⌝ }
@@ -216,20 +303,25 @@ fn next_stop(from: usize, end: usize) -> usize
     }
 }
 
-// The length of the longest well-formed beginning: by blocks where the text is ASCII, and where it is not, by characters
-// until blocks are tried again.
+// The length of the longest well-formed beginning: by blocks of ASCII, by blocks of any characters where there is none, and where there is neither,
+// by characters until blocks are tried again.
 pub fn valid_up_to(text: &[u8]) -> usize
     ensures { λ r. ⌜ r ≡ validUpTo (now (text .entry)) ⌝ }
 {
     let mut at = 0;
     while at < text.len() {
         let from = skip_blocks(text, at);
-        let stop = next_stop(from, text.len());
-        let end = skip_chars(text, from, stop);
-        if end < stop {
-            return end;
+        let wide = skip_wide(text, from);
+        if from < wide {
+            at = wide;
+        } else {
+            let stop = next_stop(from, text.len());
+            let end = skip_chars(text, from, stop);
+            if end < stop {
+                return end;
+            }
+            at = end;
         }
-        at = end;
     }
     at
 }
