@@ -405,7 +405,7 @@ bool oq3_is_white_space(uint32_t c); /* White_Space: more than oq3_is_whitespace
  * Over such a table the answer is whether one of the ranges holds c, be c a character or not. 0 words are a table that holds none. Of an odd number
  * the last is not read.
  *
- * A table that is not in order does no harm, and each has one answer too, that of a binary search (`searched` in crates/unicode/specs/Search.antt
+ * A table that is not in order does no harm, and each has one answer too, that of a binary search (`searched` in crates/ucd/specs/Search.antt
  * defines it): yes only where one of the ranges holds c, but it may be no where one does.
  *
  * A call without a table first copies the library's own to the stack, unless c is ASCII: some 5, 6 and 1 KiB, and 80 bytes for White_Space. Who asks

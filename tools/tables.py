@@ -15,8 +15,8 @@ from pathlib import Path
 VERSION = "15.0.0"
 
 TOP = Path(__file__).resolve().parent.parent
-CODE = TOP / "crates/unicode/src/tables.rt"
-SPECS = TOP / "crates/unicode/specs/Ucd.antt"
+CODE = TOP / "crates/ucd/src/tables.rt"
+SPECS = TOP / "crates/ucd/specs/Ucd.antt"
 
 # Property, file, name in the code, name in the specs.
 TABLES = [

@@ -6,7 +6,7 @@ ghost use Prim.Native.Nat.{_%_};
 ghost use lib.ListN.{drop};
 ghost use Rattle.unicode.specs.Utf8.{first, validUpTo};
 ghost use Rattle.unicode.specs.Text.{Decoded};
-ghost use Rattle.unicode.specs.Properties.{isXidStart, isXidContinue, isEmoji, isWhiteSpace, asciiStart, asciiContinue, asciiEmoji, asciiSpace, testedIn};
+ghost use Rattle.ucd.specs.Properties.{isXidStart, isXidContinue, isEmoji, isWhiteSpace, asciiStart, asciiContinue, asciiEmoji, asciiSpace, testedIn};
 ghost use Rattle.text.specs.Answer.{Answered, checkText, checkCut};
 ghost use Rattle.letters.specs.Chars.{isWhitespace, isIdStart, isIdContinue};
 ghost use Rattle.lexer.specs.Unicode.{lent};
@@ -38,7 +38,6 @@ use text::check_cut;
 use text::check_text;
 use unescape::unescape_literal;
 use unescape::unescape_part;
-use unicode::properties;
 use unicode::utf8::Char;
 use unicode::utf8::code;
 use unicode::utf8::decode;
@@ -299,54 +298,54 @@ pub extern "C" fn oq3_code(text: &[u8], at: usize) -> u32
 pub extern "C" fn oq3_is_xid_start(c: u32) -> bool
     ensures { λ r. ⌜ r ≡ isXidStart c ⌝ }
 {
-    properties::is_xid_start(c)
+    ucd::is_xid_start(c)
 }
 
 #[no_mangle]
 pub extern "C" fn oq3_is_xid_start_in(table: &[u32], c: u32) -> bool
     ensures { λ r. ⌜ r ≡ testedIn asciiStart (now (table .entry)) c ⌝ }
 {
-    properties::is_xid_start_in(table, c)
+    ucd::is_xid_start_in(table, c)
 }
 
 #[no_mangle]
 pub extern "C" fn oq3_is_xid_continue(c: u32) -> bool
     ensures { λ r. ⌜ r ≡ isXidContinue c ⌝ }
 {
-    properties::is_xid_continue(c)
+    ucd::is_xid_continue(c)
 }
 
 #[no_mangle]
 pub extern "C" fn oq3_is_xid_continue_in(table: &[u32], c: u32) -> bool
     ensures { λ r. ⌜ r ≡ testedIn asciiContinue (now (table .entry)) c ⌝ }
 {
-    properties::is_xid_continue_in(table, c)
+    ucd::is_xid_continue_in(table, c)
 }
 
 #[no_mangle]
 pub extern "C" fn oq3_is_emoji(c: u32) -> bool
     ensures { λ r. ⌜ r ≡ isEmoji c ⌝ }
 {
-    properties::is_emoji(c)
+    ucd::is_emoji(c)
 }
 
 #[no_mangle]
 pub extern "C" fn oq3_is_emoji_in(table: &[u32], c: u32) -> bool
     ensures { λ r. ⌜ r ≡ testedIn asciiEmoji (now (table .entry)) c ⌝ }
 {
-    properties::is_emoji_in(table, c)
+    ucd::is_emoji_in(table, c)
 }
 
 #[no_mangle]
 pub extern "C" fn oq3_is_white_space(c: u32) -> bool
     ensures { λ r. ⌜ r ≡ isWhiteSpace c ⌝ }
 {
-    properties::is_white_space(c)
+    ucd::is_white_space(c)
 }
 
 #[no_mangle]
 pub extern "C" fn oq3_is_white_space_in(table: &[u32], c: u32) -> bool
     ensures { λ r. ⌜ r ≡ testedIn asciiSpace (now (table .entry)) c ⌝ }
 {
-    properties::is_white_space_in(table, c)
+    ucd::is_white_space_in(table, c)
 }

@@ -20,9 +20,9 @@ fn cp(c: u32) {
         b' ',
         bit(lexer::is_id_continue(c)),
         b' ',
-        bit(unicode::properties::is_emoji(c)),
+        bit(ucd::is_emoji(c)),
         b' ',
-        bit(unicode::properties::is_white_space(c)),
+        bit(ucd::is_white_space(c)),
     ];
     print(&bits);
 }

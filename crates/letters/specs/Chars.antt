@@ -6,7 +6,7 @@ use Prim.Native.Nat.{ℕ}
 use lib.Dec.{eqb}
 use Rattle.lists.specs.All.{all}
 use Rattle.unicode.specs.Ranges.{Range, _to_, inTable}
-use Rattle.unicode.specs.Properties.{isXidStart, isXidContinue}
+use Rattle.ucd.specs.Properties.{isXidStart, isXidContinue}
 
 -- tab, LF, vertical tab, form feed and CR; space; next line; the left-to-right and right-to-left marks; the line and the paragraph separator
 unfoldable pub whitespace : List Range

@@ -2,8 +2,8 @@
 ghost use mathlib.Core.Path.{_≡_};
 ghost use Prim.Native.Nat.{_<_};
 ghost use Rattle.letters.specs.Chars.{isWhitespace, isIdStart, isIdContinue};
-use unicode::properties::is_xid_continue;
-use unicode::properties::is_xid_start;
+use ucd::is_xid_continue;
+use ucd::is_xid_start;
 
 // The bits 9 to 13 and 32 of a number: one test for all white space of ASCII, and no branch for each kind.
 fn is_low_space(c: u32) -> bool

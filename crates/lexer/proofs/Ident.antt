@@ -14,7 +14,7 @@ use Rattle.lists.specs.All.{all}
 use Rattle.lists.proofs.Bools.{by-test}
 use Rattle.unicode.specs.Utf8.{chars}
 use Rattle.unicode.specs.Ranges.{flat}
-use Rattle.unicode.specs.Ucd.{xidStart, xidContinue}
+use Rattle.ucd.specs.Ucd.{xidStart, xidContinue}
 use Rattle.unicode.specs.Text.{Decoded, Place, left, skip}
 use Rattle.unicode.proofs.Text.{decoded-point, point-at, left-end, skip-nil, skip-more, skip-stop}
 use Rattle.text.specs.Answer.{Answered, done, checkText}

@@ -6,9 +6,9 @@ use mathlib.Core.Bool.{_||_}
 use Prim.Native.Nat.{ℕ}
 use lib.Dec.{eqb}
 use Rattle.unicode.specs.Ranges.{flat}
-use Rattle.unicode.specs.Ucd.{xidStart, xidContinue, emoji}
-use Rattle.unicode.specs.Properties.{asciiStart, asciiContinue, asciiEmoji, testedIn}
-use Rattle.unicode.proofs.Rising.{start-is, continue-is, emoji-is}
+use Rattle.ucd.specs.Ucd.{xidStart, xidContinue, emoji}
+use Rattle.ucd.specs.Properties.{asciiStart, asciiContinue, asciiEmoji, testedIn}
+use Rattle.ucd.proofs.Rising.{start-is, continue-is, emoji-is}
 use Rattle.lexer.specs.Cut.{Letters}
 use Rattle.lexer.specs.Unicode.{unicode, lent}
 use Rattle.lexer.specs.Steps.{Stored}

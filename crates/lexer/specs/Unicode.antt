@@ -4,7 +4,7 @@ use mathlib.Core.List.{List}
 use mathlib.Core.Bool.{Bool, _||_}
 use Prim.Native.Nat.{ℕ}
 use lib.Dec.{eqb}
-use Rattle.unicode.specs.Properties.{isEmoji, asciiStart, asciiContinue, asciiEmoji, testedIn}
+use Rattle.ucd.specs.Properties.{isEmoji, asciiStart, asciiContinue, asciiEmoji, testedIn}
 use Rattle.letters.specs.Chars.{isIdStart, isIdContinue}
 use Rattle.lexer.specs.Cut.{Letters}
 

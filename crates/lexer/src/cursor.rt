@@ -11,9 +11,9 @@ ghost use Rattle.lexer.specs.Cut.{peek, notLf, isDigit, isHexDigit, orUn
 ghost use Rattle.lexer.specs.Unicode.{startIn, moreIn, lent};
 ghost use Rattle.lexer.specs.Steps.{Ran};
 use letters::is_whitespace;
-use unicode::properties::is_emoji_in;
-use unicode::properties::is_xid_continue_in;
-use unicode::properties::is_xid_start_in;
+use ucd::is_emoji_in;
+use ucd::is_xid_continue_in;
+use ucd::is_xid_start_in;
 use unicode::utf8::code;
 use unicode::utf8::decode;
 

@@ -22,7 +22,7 @@ pub use letters::is_id_start;
 pub use letters::is_whitespace;
 use text::Answer;
 use text::check_text;
-use unicode::tables;
+use ucd::tables;
 use unicode::utf8::decode;
 
 // Over tables of the letters that are lent.

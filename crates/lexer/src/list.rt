@@ -12,7 +12,7 @@ pub use crate::advance::Piece;
 use crate::advance::advance_token;
 use text::Answer;
 use text::check_cut;
-use unicode::tables;
+use ucd::tables;
 
 // The place behind a run of tokens, and how many they are.
 #[repr(C)]

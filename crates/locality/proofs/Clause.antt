@@ -12,7 +12,7 @@ use borrow.Author.Tests.{eqb-true, not-true}
 use Rattle.lists.specs.All.{all}
 use Rattle.lists.proofs.Bools.{by-test, both}
 use Rattle.unicode.specs.Ranges.{inTable}
-use Rattle.unicode.specs.Ucd.{xidStart, xidContinue}
+use Rattle.ucd.specs.Ucd.{xidStart, xidContinue}
 use Rattle.unicode.specs.Utf8.{chars, isScalar, encode, encodeAll, WellFormed}
 use Rattle.unicode.specs.Text.{bytes}
 use Rattle.unicode.proofs.Valid.{encoded-well-formed, well-formed-encoded, encode-append, encode-bytes, read-all}

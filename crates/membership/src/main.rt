@@ -10,10 +10,10 @@ struct Tally {
 
 fn ask(test: u32, c: u32) -> bool {
     match test {
-        0 => unicode::properties::is_xid_start(c),
-        1 => unicode::properties::is_xid_continue(c),
-        2 => unicode::properties::is_emoji(c),
-        3 => unicode::properties::is_white_space(c),
+        0 => ucd::is_xid_start(c),
+        1 => ucd::is_xid_continue(c),
+        2 => ucd::is_emoji(c),
+        3 => ucd::is_white_space(c),
         4 => lexer::is_whitespace(c),
         5 => lexer::is_id_start(c),
         _ => lexer::is_id_continue(c),

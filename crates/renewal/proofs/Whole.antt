@@ -14,7 +14,7 @@ use Rattle.lists.proofs.Bools.{by-test, on-cond}
 use Rattle.text.specs.Answer.{Answered, done, roomTooSmall, checkCut}
 use Rattle.lexer.specs.Cut.{Letters, Tok}
 use Rattle.unicode.specs.Ranges.{flat}
-use Rattle.unicode.specs.Ucd.{xidStart, xidContinue, emoji}
+use Rattle.ucd.specs.Ucd.{xidStart, xidContinue, emoji}
 use Rattle.lexer.specs.Unicode.{lent}
 use Rattle.lexer.specs.Outcome.{tokensOf}
 use Rattle.lexer.proofs.Unicode.{lent-is}

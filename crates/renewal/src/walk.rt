@@ -12,7 +12,7 @@ use crate::records::put_members;
 use crate::table;
 use lexer::list::cut_run;
 use text::Answer;
-use unicode::tables;
+use ucd::tables;
 
 // Sizes the key by runs of 64 tokens, and writes it where `write` says so.
 fn walk(

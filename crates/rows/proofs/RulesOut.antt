@@ -11,7 +11,7 @@ use Rattle.lists.specs.All.{all}
 use Rattle.lists.specs.Cut.{pieces, cut}
 use Rattle.lists.specs.Eat.{eat}
 use Rattle.unicode.specs.Ranges.{inTable}
-use Rattle.unicode.specs.Ucd.{xidStart, xidContinue, emoji}
+use Rattle.ucd.specs.Ucd.{xidStart, xidContinue, emoji}
 use Rattle.unicode.specs.Utf8.{table, behind, begins, joined, readBy, first, next, chars, width, goodBytes, validUpTo}
 use Rattle.unicode.specs.Text.{bytes, skip}
 use Rattle.text.specs.Answer.{checkText, checkCut}

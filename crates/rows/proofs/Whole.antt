@@ -12,7 +12,7 @@ use Rattle.lists.proofs.Bools.{by-test}
 use Rattle.unicode.specs.Utf8.{chars, validUpTo}
 use Rattle.unicode.specs.Text.{left}
 use Rattle.unicode.specs.Ranges.{flat}
-use Rattle.unicode.specs.Ucd.{xidStart, xidContinue, emoji}
+use Rattle.ucd.specs.Ucd.{xidStart, xidContinue, emoji}
 use Rattle.text.specs.Answer.{Answered, done, roomTooSmall, longest, checkText, checkCut, knownProfile}
 use Rattle.text.proofs.Checks.{cut-accepted}
 use Rattle.lexer.specs.Cut.{Letters, Tok, tokens}

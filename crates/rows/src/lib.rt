@@ -6,7 +6,7 @@ ghost use lib.Dec.{eqb};
 ghost use lib.ListN.{length};
 ghost use Rattle.unicode.specs.Utf8.{chars};
 ghost use Rattle.unicode.specs.Ranges.{flat};
-ghost use Rattle.unicode.specs.Ucd.{xidStart, xidContinue, emoji};
+ghost use Rattle.ucd.specs.Ucd.{xidStart, xidContinue, emoji};
 ghost use Rattle.text.specs.Answer.{Answered, done, longest};
 ghost use Rattle.lexer.specs.Cut.{tokens};
 ghost use Rattle.lexer.specs.Unicode.{lent};
@@ -16,7 +16,7 @@ use lexer::list::token_at;
 use lexer::list::tokenize;
 use text::Answer;
 use text::check_cut;
-use unicode::tables;
+use ucd::tables;
 
 // A token as `tokenize` lists it in three words: kind, length in bytes, suffix start.
 #[repr(C)]

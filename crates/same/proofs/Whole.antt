@@ -10,7 +10,7 @@ use lib.ListN.{length}
 use borrow.Author.Tests.{eq-eqb, ne-eqb, eqb-true}
 use Rattle.lists.proofs.Bools.{by-test, both}
 use Rattle.unicode.specs.Ranges.{flat}
-use Rattle.unicode.specs.Ucd.{xidStart, xidContinue, emoji}
+use Rattle.ucd.specs.Ucd.{xidStart, xidContinue, emoji}
 use Rattle.text.specs.Answer.{Answered, done, checkCut}
 use Rattle.lexer.specs.Cut.{Letters}
 use Rattle.lexer.specs.Unicode.{lent}

@@ -15,7 +15,7 @@ use crate::SAME;
 use crate::Sight;
 use lexer::list::token_at;
 use text::Answer;
-use unicode::tables;
+use ucd::tables;
 
 // A counted token by its places: its start, where its suffix starts, and its end.
 struct Found {

@@ -16,7 +16,7 @@ use Rattle.unicode.specs.Text.{bytes, skip}
 use Rattle.unicode.proofs.Text.{chars-nil, chars-first, bytes-chars, ends-bytes, skip-more}
 use Rattle.unicode.proofs.Ascii.{skip-bytes}
 use Rattle.unicode.specs.Ranges.{inTable}
-use Rattle.unicode.specs.Ucd.{xidStart, xidContinue}
+use Rattle.ucd.specs.Ucd.{xidStart, xidContinue}
 use Rattle.letters.specs.Chars.{isWhitespace, whitespace}
 use Rattle.lexer.specs.Kinds.{ident, invalidIdent, pragma}
 use Rattle.lexer.specs.Cut.{Letters, Tok, peek, notLf, agree, pragmaWord, wideEmoji, name, word, advance, piece, tokens, total}

@@ -16,10 +16,10 @@ use Rattle.lists.proofs.Cut.{by-length}
 use Rattle.lists.proofs.Eat.{eat-more, eat-stop}
 use Rattle.lists.proofs.Ends.{ends-all, ends-length, ends-eat}
 use Rattle.unicode.specs.Ranges.{inTable}
-use Rattle.unicode.specs.Ucd.{whiteSpace}
+use Rattle.ucd.specs.Ucd.{whiteSpace}
 use Rattle.unicode.specs.Utf8.{chars, isScalar, WellFormed}
 use Rattle.unicode.specs.Text.{bytes}
-use Rattle.unicode.specs.Properties.{isWhiteSpace}
+use Rattle.ucd.specs.Properties.{isWhiteSpace}
 use Rattle.unicode.proofs.Encode.{scalar}
 use Rattle.unicode.proofs.Text.{ends-bytes, chars-nil, chars-first, bytes-chars}
 use Rattle.unicode.proofs.Valid.{width-some, well-formed-encoded, read-back}

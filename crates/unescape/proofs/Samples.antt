@@ -10,7 +10,7 @@ use Rattle.lists.specs.Eat.{eat}
 use Rattle.unicode.specs.Ranges.{inTable}
 use Rattle.unicode.specs.Utf8.{table, behind, begins, joined as joinedBits, readBy, first, next, chars, width, isScalar, goodBytes, validUpTo}
 use Rattle.unicode.specs.Text.{bytes}
-use Rattle.unicode.specs.Ucd.{whiteSpace}
+use Rattle.ucd.specs.Ucd.{whiteSpace}
 use Rattle.text.specs.Answer.{Answered, done, unknownSelector, roomTooSmall, checkText}
 use Rattle.modes.specs.Modes.{strMode, isSingle, charactersShouldBeAscii, isRaw}
 use Rattle.modes.specs.Errors.{error, number, loneSurrogateUnicodeEscape, unicodeEscapeInByte, unskippedWhitespaceWarning}

@@ -11,8 +11,8 @@ use lib.ListN.{length, length-drop, drop}
 use borrow.Author.Tests.{eq-eqb, ne-eqb}
 use Rattle.lists.specs.Eat.{eat}
 use Rattle.unicode.specs.Ranges.{inTable}
-use Rattle.unicode.specs.Ucd.{whiteSpace}
-use Rattle.unicode.specs.Properties.{isWhiteSpace}
+use Rattle.ucd.specs.Ucd.{whiteSpace}
+use Rattle.ucd.specs.Properties.{isWhiteSpace}
 use Rattle.unicode.specs.Text.{Decoded, Place, Ate, bytes, left}
 use Rattle.unicode.proofs.Text.{decoded-point, decoded-end, decoded-fits, left-end, bytes-chars}
 use Rattle.unescape.specs.declared.escapes.Escape.{Escape}

@@ -18,7 +18,7 @@ use Rattle.lists.specs.Ends.{Ends}
 use Rattle.lists.proofs.Ends.{ends-all, ends-cons, ends-length, ends-eat}
 use Rattle.unicode.proofs.Text.{ends-bytes}
 use Rattle.unicode.specs.Utf8.{chars}
-use Rattle.unicode.specs.Properties.{isWhiteSpace}
+use Rattle.ucd.specs.Properties.{isWhiteSpace}
 use Rattle.unicode.specs.Text.{bytes, left}
 use Rattle.unicode.proofs.Text.{point-at, left-end, bytes-chars}
 use Rattle.unicode.proofs.Valid.{width-some}

@@ -9,7 +9,7 @@ use Rattle.lists.specs.Cut.{cut}
 use Rattle.lists.specs.Eat.{eat}
 use Rattle.unicode.specs.Utf8.{chars}
 use Rattle.unicode.specs.Text.{bytes}
-use Rattle.unicode.specs.Properties.{isWhiteSpace}
+use Rattle.ucd.specs.Properties.{isWhiteSpace}
 use Rattle.modes.specs.Modes.{byteMode, isSingle, isRaw, charactersShouldBeAscii}
 use Rattle.modes.specs.Errors.{Outcome, char, error, number, zeroChars, moreThanOneChar, bareCarriageReturn, bareCarriageReturnInRawString, escapeOnlyChar, unskippedWhitespaceWarning, multipleSkippedLinesWarning}
 use Rattle.unescape.specs.Escapes.{escape, asciiCheck}

@@ -6,7 +6,7 @@ use mathlib.Core.Bool.{Bool, true, not, _&&_, _||_}
 use mathlib.Core.List.{List, [], _∷_}
 use lib.Dec.{eqb, leb}
 use Rattle.unicode.specs.Utf8.{isScalar, width}
-use Rattle.unicode.specs.Properties.{isWhiteSpace}
+use Rattle.ucd.specs.Properties.{isWhiteSpace}
 use Rattle.modes.specs.Modes.{charactersShouldBeAscii}
 use Rattle.modes.specs.Errors.{error, number, zeroChars, outOfRangeHexEscape, unskippedWhitespaceWarning, multipleSkippedLinesWarning}
 use Rattle.unescape.specs.Escapes.{asciiCheck}

@@ -16,7 +16,7 @@ use crate::escapes::simple;
 use modes::errors;
 use modes::is_ascii_only;
 use modes::is_raw;
-use unicode::properties::is_white_space;
+use ucd::is_white_space;
 use unicode::utf8::NO_CHAR;
 use unicode::utf8::decode;
 

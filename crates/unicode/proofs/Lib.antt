@@ -6,7 +6,4 @@ pub mod Ascii
 pub mod Valid
 pub mod Reading
 pub mod Blocks
-pub mod Search
-pub mod Rising
-pub mod Member
 pub mod Samples

@@ -1,5 +1,2 @@
-// UTF-8 and the character properties that the lexer asks.
-pub mod properties;
-mod ranges;
-pub mod tables;
+// UTF-8.
 pub mod utf8;

@@ -2,10 +2,10 @@
 ghost use mathlib.Core.Path.{_≡_};
 ghost use Prim.Native.Nat.{ℕ, _+_, _≤_, _<_, min};
 ghost use lib.ListN.{length, getD, drop};
+ghost use Rattle.unicode.specs.Ranges.{_to_, inRange};
 ghost use Rattle.unicode.specs.Utf8.{first, noChar, validUpTo};
 ghost use Rattle.unicode.specs.Wide.{Reads, low, high, two, three, four, free, Stood, whole};
 ghost use Rattle.unicode.specs.Text.{Decoded, Passed};
-use crate::ranges::in_range;
 
 // Where the numbers begin that are no characters.
 pub const NO_CHAR: u32 = 1114112;
@@ -35,6 +35,15 @@ fn byte(text: &[u8], i: usize) -> u8
     ensures { λ r. ⌜ r ≡ getD (now (text .entry)) i 0 ⌝ }
 {
     if i < text.len() { text[i] } else { 0 }
+}
+
+fn in_range(lo: u8, hi: u8, b: u8) -> bool
+    ensures { λ r. ⌜ r ≡ inRange b (lo to hi) ⌝ }
+{
+    if b < lo {
+        return false;
+    }
+    b <= hi
 }
 
 // The bounds of the second byte behind the first byte a.

@@ -1,6 +1,6 @@
 use native.Mathlib.Omega.{arith}
 use Rattle.unicode.specs.Ranges.{inTable}
-use Rattle.unicode.proofs.Member.{here, later, outside}
+use Rattle.ucd.proofs.Member.{here, later, outside}
 use Rattle.letters.specs.Chars.{whitespace}
 use borrow.Author.Needs.{needs}
 use Rattle.letters.proofs.is_whitespace.Statement.{statement}

@@ -1,4 +1,4 @@
-use Rattle.unicode.specs.Ucd.{xidStart, xidContinue}
+use Rattle.ucd.specs.Ucd.{xidStart, xidContinue}
 use Rattle.lexer.proofs.Ident.{ident-lent}
 use borrow.Author.Needs.{needs}
 use Rattle.lexer.proofs.lend_ident.Statement.{statement}

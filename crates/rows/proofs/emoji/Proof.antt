@@ -1,5 +1,5 @@
 use mathlib.Core.Path.{refl}
-use Rattle.unicode.specs.Ucd.{emoji}
+use Rattle.ucd.specs.Ucd.{emoji}
 use Rattle.rows.proofs.emoji.Statement.{statement}
 use Rattle.rows.proofs.emoji.Tie as tie
 

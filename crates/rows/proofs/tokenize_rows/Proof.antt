@@ -45,7 +45,7 @@ use denote.Triple.Walked.{says, Stays, stay-none, gave-slice, stay-none-slice, w
 use denote.Exit.{yes}
 use Rattle.unicode.specs.Utf8.{chars}
 use Rattle.unicode.specs.Ranges.{flat}
-use Rattle.unicode.specs.Ucd.{xidStart, xidContinue, emoji as emojis}
+use Rattle.ucd.specs.Ucd.{xidStart, xidContinue, emoji as emojis}
 use Rattle.text.specs.Answer.{Answered, longest}
 use Rattle.text.specs.declared.Answer.{Answer}
 use Rattle.text.proofs.Answer as S

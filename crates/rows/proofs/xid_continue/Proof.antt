@@ -1,5 +1,5 @@
 use mathlib.Core.Path.{refl}
-use Rattle.unicode.specs.Ucd.{xidContinue}
+use Rattle.ucd.specs.Ucd.{xidContinue}
 use Rattle.rows.proofs.xid_continue.Statement.{statement}
 use Rattle.rows.proofs.xid_continue.Tie as tie
 

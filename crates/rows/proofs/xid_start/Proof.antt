@@ -1,5 +1,5 @@
 use mathlib.Core.Path.{refl}
-use Rattle.unicode.specs.Ucd.{xidStart}
+use Rattle.ucd.specs.Ucd.{xidStart}
 use Rattle.rows.proofs.xid_start.Statement.{statement}
 use Rattle.rows.proofs.xid_start.Tie as tie
 

@@ -1,4 +1,4 @@
-use Rattle.unicode.specs.Ucd.{xidStart, xidContinue, emoji}
+use Rattle.ucd.specs.Ucd.{xidStart, xidContinue, emoji}
 use Rattle.lexer.proofs.Unicode.{lent-stored}
 use borrow.Author.Needs.{needs}
 use Rattle.lexer.proofs.list.lend.Statement.{statement}

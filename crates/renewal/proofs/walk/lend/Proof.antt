@@ -1,5 +1,5 @@
 use mathlib.Core.Path.{refl}
-use Rattle.unicode.specs.Ucd.{xidStart, xidContinue, emoji}
+use Rattle.ucd.specs.Ucd.{xidStart, xidContinue, emoji}
 use Rattle.renewal.specs.Key.{bodyLength}
 use Rattle.renewal.specs.Steps.{bodiesFrom, bodies}
 use Rattle.renewal.proofs.Whole.{lent-stored}

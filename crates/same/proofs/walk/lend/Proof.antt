@@ -1,4 +1,4 @@
-use Rattle.unicode.specs.Ucd.{xidStart, xidContinue, emoji}
+use Rattle.ucd.specs.Ucd.{xidStart, xidContinue, emoji}
 use Rattle.same.proofs.Whole.{lent-parted}
 use borrow.Author.Needs.{needs}
 use Rattle.same.proofs.walk.lend.Statement.{statement}

@@ -1,0 +1,4 @@
+pub mod Ucd
+pub mod Order
+pub mod Search
+pub mod Properties
