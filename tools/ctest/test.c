@@ -1,5 +1,5 @@
 /*
- * test: calls each function of include/oq3.h and compares. Values by hand are from the scope's tables; then, from standard input, the members of the
+ * test: calls each function of include/oq3.h and compares. First with values by hand, from the scope's tables and rules; then, from standard input, the members of the
  * properties, as crates/membership/stdout has them of the Rust, and the lines of the test vectors, `TASK ARGUMENTS = ANSWER`. What these do not say is
  * held to a plain model of it, written here. The last line is `N passed, M failed`.
  *
@@ -23,6 +23,7 @@ typedef char char_16[sizeof(oq3_char) == 16 && offsetof(oq3_char, wide) == 8 ? 1
 typedef char token_12[sizeof(oq3_token) == 12 && sizeof(oq3_item) == 12 ? 1 : -1];
 typedef char rows_784[sizeof(oq3_records) == 768 && sizeof(oq3_rows) == 784 && offsetof(oq3_rows, row) == 16 ? 1 : -1];
 typedef char run_16[sizeof(oq3_run) == 16 && offsetof(oq3_run, count) == 8 ? 1 : -1];
+typedef char piece_24[sizeof(oq3_piece) == 24 && offsetof(oq3_piece, mark) == 8 && offsetof(oq3_piece, end) == 16 ? 1 : -1];
 typedef char sight_24[sizeof(oq3_sight) == 24 && offsetof(oq3_sight, start) == 8 && offsetof(oq3_sight, length) == 16 ? 1 : -1];
 typedef char comparison_80[sizeof(oq3_comparison) == 80 && offsetof(oq3_comparison, refusal) == 8 && offsetof(oq3_comparison, agreed) == 24
                                    && offsetof(oq3_comparison, in_old) == 32 && offsetof(oq3_comparison, in_new) == 56
@@ -366,6 +367,7 @@ static void too_long(void) {
     CHECK(is(oq3_tokenize_rows(text, more, 0, (oq3_token *)list, 9), 2, 0));
     CHECK(is(oq3_rows_of(text, more, 0, blank, 64).answer, 2, 0));
     CHECK(ran(cut(text, more, 0, 0, 9, no), 0, 0) && ran(cut(text, more, 5, 0, 9, no), 5, 0));
+    CHECK(piece(text, more, 0, 0, no, 0, 0, 0) && piece(text, more, 5, 1, no, 0, 5, 5));
     CHECK(is(oq3_renewal_key(text, more, 1, key, KEY), 2, 0));
     CHECK(is(oq3_unescape_literal(text, more, 6, list, WORDS), 2, 0));
     CHECK(is(oq3_unescape_part(text, more, 0, more, 1, list, WORDS), 2, 0));

@@ -73,7 +73,7 @@ fn put_few(key: &mut [u8], k: usize, part: &[u8]) -> usize
     k + n
 }
 
-// How many bytes the first and the last of four to sixteen bytes are, that together are all.
+// Of four to sixteen bytes, how many are written at the front and how many at the end, so that together they are all.
 fn half(n: usize) -> usize
     requires { ⌜ (4 ≤ n) × (n ≤ 16) ⌝ }
     ensures { λ r. ⌜ (4 ≤ r) × (r ≤ 8) × (r ≤ n) × (n ≤ 2 * r) ⌝ }

@@ -1,5 +1,6 @@
 -- What the decoder's own functions answer: the bounds of a second byte, and the character of two, three and four bytes, a byte past
--- the end of the text counting as 0, which no row of the table has behind a first byte. `proofs/Rows.antt` proves that this is the table.
+-- the end of the text counting as 0, which no row of the table has behind a first byte (`proofs/Rows.antt` proves that this is the table);
+-- and what a byte of a block counts for (`proofs/Blocks.antt`).
 -- Assumes nothing.
 use mathlib.Core.Path.{_≡_}
 use mathlib.Core.Bool.{Bool, true, false, _&&_, cond}

@@ -10,7 +10,7 @@ ghost use Rattle.unicode.specs.Text.{Decoded, Passed};
 // Where the numbers begin that are no characters.
 pub const NO_CHAR: u32 = 1114112;
 
-// How many bytes are looked at together where the text is ASCII.
+// How many bytes are looked at together.
 const BLOCK: usize = 32;
 
 // A character, and how many bytes it takes. A byte that begins no well-formed sequence is read as no character: NO_CHAR
@@ -206,7 +206,7 @@ fn is_free(a: u8, b: u8, c: u8) -> bool
     a < 0xF0
 }
 
-// What a byte d counts for behind a, b and c: itself where it may stand there, else 255.
+// What a byte d counts for behind a, b and c: where it may not stand there, more than F4.
 fn stand(a: u8, b: u8, c: u8, d: u8) -> u8
     ensures { λ r. ⌜ Stood a b c d r ⌝ }
 {
@@ -259,7 +259,8 @@ fn whole_of(b: u8, c: u8, d: u8) -> usize
     if 0xF0 <= b { 29 } else { 32 }
 }
 
-// Past a block of 32 bytes that is well-formed, to the end of its last whole character; else nowhere. What stands before it is read too.
+// Past a block of 32 bytes that is well-formed, to the end of its last whole character; else nowhere. The three bytes before it
+// are asked first: no character may reach from there into the block.
 fn skip_wide(text: &[u8], from: usize) -> usize
     requires { ⌜ from ≤ length (now text) ⌝ }
     ensures { λ r. ⌜ Passed (now (text .entry)) from r ⌝ }
