@@ -21,8 +21,8 @@ use Rattle.text.specs.Answer.{Answered, done, roomTooSmall, longest, checkCut}
 use Rattle.text.proofs.Checks.{cut-accepted}
 use Rattle.lexer.specs.Cut.{Letters, Tok, token, piece, tokens, flat, total}
 use Rattle.lexer.specs.Unicode.{unicode}
-use Rattle.lexer.specs.Steps.{Cuts, Advanced, runFrom, Filled, Stored}
-use Rattle.lexer.specs.Outcome.{tokensOf, outcome, listed, Listed, run, CutRun, front, TokenAt}
+use Rattle.lexer.specs.Steps.{Cuts, Advanced, Filled, Stored}
+use Rattle.lexer.specs.Outcome.{tokensOf, outcome, listed, Listed, runFrom, run, CutRun, front, TokenAt}
 use Rattle.lexer.proofs.Shapes.{tokens-nil, tokens-cons}
 
 -- three words for each token

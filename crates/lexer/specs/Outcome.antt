@@ -3,9 +3,10 @@
 use Prim.Native.Nat.{ℕ, _+_, _/_}
 use mathlib.Core.Path.{_≡_}
 use mathlib.Core.Bool.{cond}
-use mathlib.Core.List.{List, [], _∷_, _++_}
+use mathlib.Core.List.{List, [], _∷_}
 use lib.Dec.{eqb, ltb}
-use lib.ListN.{length, take, drop}
+use lib.ListN.{length, take}
+use Rattle.lists.specs.Over.{over}
 use Rattle.unicode.specs.Utf8.{chars}
 use Rattle.unicode.specs.Text.{left}
 use Rattle.text.specs.Answer.{Answered, done, longest, checkText, checkCut, checkRoom, _andThen_}
@@ -25,33 +26,44 @@ outcome s profile words = checkCut s profile andThen checkRoom (words / 3) (leng
 -- the words of the tokens, and behind them what stood there; a refusal changes nothing
 unfoldable pub listed : List ℕ → ℕ → List ℕ → List ℕ
 listed s profile list =
-    let words = flat (tokensOf profile s) in
-    cond (eqb (outcome s profile (length list) .0) done) (words ++ drop (length words) list) list
+    cond (eqb (outcome s profile (length list) .0) done) (over (flat (tokensOf profile s)) list) list
 
 pub record Listed (s : List ℕ) (profile : ℕ) (list : List ℕ) (number also : ℕ) (list′ : List ℕ) : Type 0 where
   pub answer : Answered (outcome s profile (length list)) number also
   pub words : list′ ≡ listed s profile list
 
--- the tokens from a place on, as many as there is room for; of a text of more than 4,294,967,295 bytes, none
+-- the tokens from a place on, as many as there is room for
+abbrev pub runFrom : Letters → ℕ → List ℕ → ℕ → ℕ → List Tok
+runFrom u profile s from room = take room (tokens u profile (left s from))
+
+-- of a text of more than 4,294,967,295 bytes, none
 unfoldable pub run : Letters → ℕ → List ℕ → ℕ → ℕ → List Tok
-run u profile s from room = cond (ltb longest (length s)) [] (take room (tokens u profile (left s from)))
+run u profile s from room = cond (ltb longest (length s)) [] (runFrom u profile s from room)
+
+-- those that a list has room for: three words for each
+abbrev pub runInto : Letters → ℕ → List ℕ → ℕ → List ℕ → List Tok
+runInto u profile s from list = run u profile s from (length list / 3)
 
 -- what `cut_run` answers and leaves: the place behind them, how many they are; their words, and behind them what stood there
 pub record CutRun (u : Letters) (profile : ℕ) (s : List ℕ) (from : ℕ) (list : List ℕ) (at count : ℕ) (list′ : List ℕ) : Type 0 where
-  pub reached : at ≡ from + total (run u profile s from (length list / 3))
-  pub many : count ≡ length (run u profile s from (length list / 3))
-  pub words : list′ ≡ flat (run u profile s from (length list / 3)) ++ drop (length (flat (run u profile s from (length list / 3)))) list
+  pub reached : at ≡ from + total (runInto u profile s from list)
+  pub many : count ≡ length (runInto u profile s from list)
+  pub words : list′ ≡ over (flat (runInto u profile s from list)) list
 
 -- the first of some tokens; of none, the end of the text, of no length
 unfoldable pub front : List Tok → Tok
 front [] = record { kind = eof; len = 0; suff = 0 }
 front (t ∷ ts) = t
 
--- what `token_at` answers: the token at a place, by a run of one; where its suffix starts, and where it ends
+-- the token at a place, by a run of one
+abbrev pub tokenAt : Letters → ℕ → List ℕ → ℕ → Tok
+tokenAt u profile s at = front (run u profile s at 1)
+
+-- what `token_at` answers: its kind, where its suffix starts, and where it ends
 pub record TokenAt (u : Letters) (profile : ℕ) (s : List ℕ) (at kind mark end : ℕ) : Type 0 where
-  pub what : kind ≡ front (run u profile s at 1) .kind
-  pub start : mark ≡ at + front (run u profile s at 1) .suff
-  pub place : end ≡ at + front (run u profile s at 1) .len
+  pub what : kind ≡ tokenAt u profile s at .kind
+  pub start : mark ≡ at + tokenAt u profile s at .suff
+  pub place : end ≡ at + tokenAt u profile s at .len
 
 -- whether a text is an identifier: 1 for yes, 0 for no
 unfoldable pub identified : List ℕ → ℕ × ℕ

@@ -3,16 +3,18 @@
 use Prim.Native.Nat.{ℕ, _+_, _/_, _≤_, _<_, min}
 use mathlib.Core.Path.{_≡_}
 use mathlib.Core.Bool.{Bool, false, cond, _&&_, _||_}
-use mathlib.Core.List.{List, _∷_, _++_}
+use mathlib.Core.List.{List, _∷_}
 use lib.Dec.{eqb}
-use lib.ListN.{length, take, drop, getD}
+use lib.ListN.{length, drop, getD}
 use lib.Seq.{sets}
+use Rattle.lists.specs.Over.{over}
 use Rattle.unicode.specs.Utf8.{chars}
 use Rattle.text.specs.Answer.{Answered, done, checkRoom}
 use Rattle.unicode.specs.Text.{Place, left, skip}
 use Rattle.letters.specs.Chars.{isWhitespace}
 use Rattle.lexer.specs.Kinds.{eof}
 use Rattle.lexer.specs.Cut.{Letters, Tok, agree, isBit, isDigit, quoted, quoteKind, token, tokens, flat, total}
+use Rattle.lexer.specs.Outcome.{runFrom}
 
 -- a number and a place, by a definition that gives a number and what is left
 pub record Parted (f : List ℕ → ℕ × List ℕ) (s : List ℕ) (at kind end : ℕ) : Type 0 where
@@ -88,11 +90,7 @@ pub record Advanced (u : Letters) (profile : ℕ) (s : List ℕ) (at kind mark e
   pub before-end : (at < length s → Cuts u profile s at kind mark end)
   pub at-end : (length s ≤ at → (kind ≡ eof) × (mark ≡ at) × (end ≡ at))
 
--- ---- a run of tokens from a place on, as many as there is room for
-abbrev pub runFrom : Letters → ℕ → List ℕ → ℕ → ℕ → List Tok
-runFrom u profile s from room = take room (tokens u profile (left s from))
-
--- how many they are, where they end and what is left there, and the list with their words
+-- ---- a run of tokens: how many they are, where they end and what is left there, and the list with their words
 pub record Filled (u : Letters) (profile : ℕ) (s : List ℕ) (from : ℕ) (list : List ℕ) (at count : ℕ) (list′ : List ℕ) : Type 0 where
   pub many : count ≡ length (runFrom u profile s from (length list / 3))
   pub reached : at ≡ from + total (runFrom u profile s from (length list / 3))
@@ -102,4 +100,4 @@ pub record Filled (u : Letters) (profile : ℕ) (s : List ℕ) (from : ℕ) (lis
 -- the answer for a text that passed the checks, and the list
 pub record Stored (u : Letters) (profile : ℕ) (s list : List ℕ) (number also : ℕ) (list′ : List ℕ) : Type 0 where
   pub answer : Answered (checkRoom (length list / 3) (length (tokens u profile (chars s)))) number also
-  pub words : list′ ≡ cond (eqb number done) (flat (tokens u profile (chars s)) ++ drop (length (flat (tokens u profile (chars s)))) list) list
+  pub words : list′ ≡ cond (eqb number done) (over (flat (tokens u profile (chars s))) list) list

@@ -4,7 +4,7 @@
 use Prim.Native.Nat.{ℕ}
 use native.Mathlib.Omega.{arith}
 use mathlib.Core.Path.{_≡_, refl, ap, sym, _∙_}
-use mathlib.Core.List.{List, [], _∷_}
+use mathlib.Core.List.{List, [], _∷_, flatten}
 use lib.ListN.{length, getD}
 use borrow.Author.Tests.{ne-eqb}
 use Rattle.lists.specs.All.{all}
@@ -62,7 +62,7 @@ leaves :
     × (Only spaced room 0 1 (0x0A ∷ 7 ∷ 7 ∷ []))
     × (Only x room 4 7 room)
     × (keyOfText 0 sample ≡ sampleKey)
-unfolding all pieces cut eat inTable xidStart xidContinue emoji table behind begins joined readBy first next chars width goodBytes validUpTo bytes skip checkText checkCut whitespace marks markIn unicode tokensOf notLf isDigit isHexDigit block slash digits exponent exponentOf point fraction based number isUnit quoted quoteKind agree pound name word annotated hardware identifier suffix advance piece tokens isCounted counted membersBy membersOf bodyLength nextText texts held encode keyOf keyOfText key.digits key.joined outcome keyed
+unfolding all pieces cut eat inTable xidStart xidContinue emoji table behind begins joined readBy first next chars width goodBytes validUpTo bytes skip checkText checkCut whitespace marks markIn unicode tokensOf notLf isDigit isHexDigit block slash digits exponent exponentOf point fraction based number isUnit quoted quoteKind agree pound name word annotated hardware identifier suffix advance piece tokens isCounted counted membersBy membersOf bodyLength nextText texts held encode keyOf keyOfText key.digits flatten outcome keyed
 leaves = ((refl, refl), (refl, refl), (refl, refl), (refl, refl), refl)
 
 -- ---- THE SAMPLE: the 22 bytes of x=0b1;//t

@@ -4,15 +4,15 @@ use Prim.Native.Nat.{ℕ, zero, suc, _+_, _/_, _-_, _≤_, _<_, min}
 use native.Mathlib.Decide.{decLt}
 use native.Mathlib.Omega.{arith}
 use mathlib.Core.Path.{_≡_, refl, ap, sym, _∙_}
-use mathlib.Core.List.{List, [], _∷_, _++_, append-assoc}
+use mathlib.Core.List.{List, [], _∷_, _++_, append-assoc, flatten}
 use lib.Seq.{take-all, drop-drop}
 use lib.ListN.{length, take, drop, length-append, length-take, length-drop, take-append-drop, drop-of-length-le}
 use Rattle.lists.proofs.Cut.{cut-nil, cut-cons, by-length}
-use Rattle.renewal.specs.Key.{textRecord, nextText, joined, texts}
+use Rattle.renewal.specs.Key.{textRecord, nextText, texts}
 use Rattle.renewal.proofs.Words.{same-front}
 
 pub texts-nil : texts [] ≡ []
-unfolding texts joined
+unfolding texts flatten
 texts-nil = rw (cut-nil nextText)
 
 next-less : (a : ℕ) (t : List ℕ) → length (nextText a t .1) ≤ length t
@@ -20,7 +20,7 @@ unfolding nextText
 next-less a t = omega (arith, length-drop 15 t)
 
 pub texts-cons : (a : ℕ) (t : List ℕ) → texts (a ∷ t) ≡ textRecord (a ∷ t) ++ texts (drop 15 t)
-unfolding texts joined nextText
+unfolding texts flatten nextText
 texts-cons a t = rw (cut-cons nextText next-less a t)
 
 -- ---- one byte more for each sixteen

@@ -1,7 +1,7 @@
 -- How members are written in a key: each is one byte of kind, a body whose length the kind fixes, and, where the body is not empty, text records.
 -- Assumes nothing.
 use mathlib.Core.Bool.{Bool, cond, not, _&&_, _||_}
-use mathlib.Core.List.{List, [], _∷_, _++_}
+use mathlib.Core.List.{List, [], _∷_, _++_, flatten}
 use Prim.Native.Nat.{ℕ, zero, suc, _+_, _/_, _%_}
 use lib.Dec.{eqb, leb}
 use lib.ListN.{length, take, drop}
@@ -47,12 +47,8 @@ textRecord l = (128 + length (take 16 l)) ∷ take 16 l
 unfoldable pub nextText : ℕ → List ℕ → List ℕ × List ℕ
 nextText a t = (textRecord (a ∷ t), drop 15 t)
 
-unfoldable pub joined : List (List ℕ) → List ℕ
-joined [] = []
-joined (l ∷ ls) = l ++ joined ls
-
 unfoldable pub texts : List ℕ → List ℕ
-texts l = joined (cut nextText l)
+texts l = flatten (cut nextText l)
 
 -- ---- the key
 -- of a member whose body is empty the key holds the kind alone

@@ -3,9 +3,10 @@
 use Prim.Native.Nat.{ℕ}
 use mathlib.Core.Path.{_≡_}
 use mathlib.Core.Bool.{cond}
-use mathlib.Core.List.{List, _++_}
+use mathlib.Core.List.{List}
 use lib.Dec.{eqb}
-use lib.ListN.{length, drop}
+use lib.ListN.{length}
+use Rattle.lists.specs.Over.{over}
 use Rattle.text.specs.Answer.{Answered, done, checkCut, checkRoom, _andThen_}
 use Rattle.renewal.specs.Key.{keyOfText}
 
@@ -16,7 +17,7 @@ outcome s profile room = checkCut s profile andThen checkRoom room (length (keyO
 -- the key, and behind it what stood there; a refusal changes nothing
 unfoldable pub keyed : List ℕ → ℕ → List ℕ → List ℕ
 keyed s profile key =
-    cond (eqb (outcome s profile (length key) .0) done) (keyOfText profile s ++ drop (length (keyOfText profile s)) key) key
+    cond (eqb (outcome s profile (length key) .0) done) (over (keyOfText profile s) key) key
 
 pub record Keyed (s : List ℕ) (profile : ℕ) (key : List ℕ) (number also : ℕ) (key′ : List ℕ) : Type 0 where
   pub answer : Answered (outcome s profile (length key)) number also

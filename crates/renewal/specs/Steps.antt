@@ -7,6 +7,7 @@ use Prim.Native.Nat.{ℕ, zero, suc, _+_, _*_, _/_, _≤_}
 use lib.Dec.{eqb}
 use lib.ListN.{length, take, drop, getD}
 use lib.Seq.{sets}
+use Rattle.lists.specs.Over.{over}
 use Rattle.unicode.specs.Utf8.{chars}
 use Rattle.text.specs.Answer.{Answered, done, longest, checkRoom}
 use Rattle.lexer.specs.Cut.{Tok, Letters, tokens, total}
@@ -84,4 +85,4 @@ pub record Walked (cutter : List ℕ → List Tok) (s : List ℕ) (write : Bool)
 -- the answer for a text that passed the checks, and the key
 pub record Stored (cutter : List ℕ → List Tok) (s key : List ℕ) (number also : ℕ) (key′ : List ℕ) : Type 0 where
   pub answer : Answered (checkRoom (length key) (length (keyBy cutter s))) number also
-  pub bytes : key′ ≡ cond (eqb number done) (keyBy cutter s ++ drop (length (keyBy cutter s)) key) key
+  pub bytes : key′ ≡ cond (eqb number done) (over (keyBy cutter s) key) key

@@ -3,9 +3,10 @@
 use Prim.Native.Nat.{ℕ, _*_}
 use mathlib.Core.Path.{_≡_}
 use mathlib.Core.Bool.{cond}
-use mathlib.Core.List.{List, [], _∷_, _++_}
+use mathlib.Core.List.{List, [], _∷_}
 use lib.Dec.{eqb}
 use lib.ListN.{length, take, drop}
+use Rattle.lists.specs.Over.{over}
 use Rattle.text.specs.Answer.{Answered, done}
 use Rattle.lexer.specs.Cut.{Tok}
 use Rattle.lexer.specs.Outcome.{tokensOf, outcome}
@@ -22,8 +23,7 @@ records (t ∷ ts) = recordOf t ∷ records ts
 -- the records of the tokens, and behind them what stood there; a refusal changes nothing
 unfoldable pub rowed : List ℕ → ℕ → List Token → List Token
 rowed s profile row =
-    let new = records (tokensOf profile s) in
-    cond (eqb (outcome s profile (3 * length row) .0) done) (new ++ drop (length new) row) row
+    cond (eqb (outcome s profile (3 * length row) .0) done) (over (records (tokensOf profile s)) row) row
 
 -- the answer is that of `tokenize`, for a list of three words for each record of the row
 pub record Rowed (s : List ℕ) (profile : ℕ) (row : List Token) (number also : ℕ) (row′ : List Token) : Type 0 where

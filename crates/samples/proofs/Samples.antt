@@ -1,6 +1,7 @@
 -- The starred samples hold: computed from the definitions.
 -- Assumes nothing.
 use mathlib.Core.Path.{_≡_, refl}
+use mathlib.Core.List.{flatten}
 use Rattle.lists.specs.All.{all}
 use Rattle.lists.specs.Cut.{pieces, cut}
 use Rattle.lists.specs.Eat.{eat}
@@ -18,13 +19,13 @@ use Rattle.unescape.specs.Escapes.{toDigit, hexDigit, hexEscape, firstDigit, mo
 use Rattle.unescape.specs.Bodies.{alone, oneChar, charOrByte, items, itemsOf, flat as flatItems}
 use Rattle.unescape.specs.Outcome.{outcome as bodyOutcome, listed as bodyListed}
 use Rattle.tokens.specs.Members.{isCounted, counted, membersBy, membersOf}
-use Rattle.renewal.specs.Key.{bodyLength, digits as keyDigits, nextText, joined as joinedTexts, texts, held, encode, keyOf, keyOfText}
+use Rattle.renewal.specs.Key.{bodyLength, digits as keyDigits, nextText, texts, held, encode, keyOf, keyOfText}
 use Rattle.renewal.specs.Outcome.{outcome as keyOutcome, keyed}
 use Rattle.tokens.specs.Tiling.{Each}
 use Rattle.samples.specs.Samples.{Sample, does, samples}
 use Rattle.lexer.specs.Cut.{notLf, isDigit, isHexDigit, block, slash, digits, exponent, exponentOf, point, fraction, based, number, isUnit, quoted, withoutLf, twice, quoteKind, agree, pound, name, word, annotated, hardware, identifier, suffix, advance, piece, tokens, flat}
 
 pub all-samples : Each (λ (x : Sample). does (x .call) ≡ (x .answer, x .after)) samples
-unfolding isCounted counted membersBy membersOf bodyLength keyDigits nextText joinedTexts texts held encode keyOf keyOfText keyOutcome keyed isSingle isRaw charactersShouldBeAscii toDigit hexDigit hexEscape firstDigit moreDigits codePoint closing braced unicodeEscape simple escape asciiCheck alone oneChar charOrByte items itemsOf flatItems bodyOutcome bodyListed pieces cut eat inTable xidStart xidContinue emoji table behind begins joined readBy first next chars width goodBytes validUpTo bytes skip checkText checkCut whitespace marks markIn unicode tokensOf outcome listed notLf isDigit isHexDigit block slash digits exponent exponentOf point fraction based number isUnit quoted all withoutLf twice quoteKind agree pound name word annotated hardware identifier suffix advance piece tokens flat samples
+unfolding isCounted counted membersBy membersOf bodyLength keyDigits nextText flatten texts held encode keyOf keyOfText keyOutcome keyed isSingle isRaw charactersShouldBeAscii toDigit hexDigit hexEscape firstDigit moreDigits codePoint closing braced unicodeEscape simple escape asciiCheck alone oneChar charOrByte items itemsOf flatItems bodyOutcome bodyListed pieces cut eat inTable xidStart xidContinue emoji table behind begins joined readBy first next chars width goodBytes validUpTo bytes skip checkText checkCut whitespace marks markIn unicode tokensOf outcome listed notLf isDigit isHexDigit block slash digits exponent exponentOf point fraction based number isUnit quoted all withoutLf twice quoteKind agree pound name word annotated hardware identifier suffix advance piece tokens flat samples
 all-samples =
     (refl, (refl, (refl, (refl, (refl, (refl, (refl, (refl, (refl, (refl, (refl, (refl, (refl, (refl, (refl, (refl, (refl, (refl, tt))))))))))))))))))

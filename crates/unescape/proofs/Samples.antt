@@ -4,23 +4,23 @@ use Prim.Native.Nat.{ℕ}
 use native.Mathlib.Omega.{arith}
 use mathlib.Core.Path.{_≡_, refl}
 use mathlib.Core.Bool.{true, false}
-use mathlib.Core.List.{List, [], _∷_}
+use mathlib.Core.List.{List, [], _∷_, flatten}
 use Rattle.lists.specs.Cut.{cut, pieces}
 use Rattle.lists.specs.Eat.{eat}
 use Rattle.unicode.specs.Ranges.{inTable}
-use Rattle.unicode.specs.Utf8.{table, behind, begins, joined as joinedBits, readBy, first, next, chars, width, isScalar, goodBytes, validUpTo}
+use Rattle.unicode.specs.Utf8.{table, behind, begins, joined, readBy, first, next, chars, width, isScalar, goodBytes, validUpTo}
 use Rattle.unicode.specs.Text.{bytes}
 use Rattle.ucd.specs.Ucd.{whiteSpace}
 use Rattle.text.specs.Answer.{Answered, done, unknownSelector, roomTooSmall, checkText}
 use Rattle.modes.specs.Modes.{strMode, isSingle, charactersShouldBeAscii, isRaw}
 use Rattle.modes.specs.Errors.{error, number, loneSurrogateUnicodeEscape, unicodeEscapeInByte, unskippedWhitespaceWarning}
 use Rattle.unescape.specs.Escapes.{toDigit, hexDigit, hexEscape, firstDigit, moreDigits, codePoint, closing, braced, unicodeEscape, simple, escape, asciiCheck}
-use Rattle.unescape.specs.Bodies.{alone, oneChar, charOrByte, strChar, rawChar, unskipped, skipped, slashed, strCommon, rawStr, turn, joined, turns, items, itemsOf, flat}
+use Rattle.unescape.specs.Bodies.{alone, oneChar, charOrByte, strChar, rawChar, unskipped, skipped, slashed, strCommon, rawStr, turn, turns, items, itemsOf, flat}
 use Rattle.unescape.specs.Outcome.{outcome, listed, Unescaped, part, single}
 
 -- to unfold this is to unfold all that the examples compute with
 definitions : ℕ
-unfolding cut pieces eat inTable table behind begins joinedBits readBy first next chars width isScalar goodBytes validUpTo bytes whiteSpace checkText isSingle isRaw charactersShouldBeAscii toDigit hexDigit hexEscape firstDigit moreDigits codePoint closing braced unicodeEscape simple escape asciiCheck alone oneChar charOrByte strChar rawChar unskipped skipped slashed strCommon rawStr turn joined turns items itemsOf flat outcome listed single
+unfolding cut pieces eat inTable table behind begins joined readBy first next chars width isScalar goodBytes validUpTo bytes whiteSpace checkText isSingle isRaw charactersShouldBeAscii toDigit hexDigit hexEscape firstDigit moreDigits codePoint closing braced unicodeEscape simple escape asciiCheck alone oneChar charOrByte strChar rawChar unskipped skipped slashed strCommon rawStr turn flatten turns items itemsOf flat outcome listed single
 definitions = 0
 
 -- a mode, a body, and the words of its items

@@ -5,7 +5,7 @@ use native.Mathlib.Omega.{arith}
 use native.Mathlib.Numerals.{add-one, add-two}
 use mathlib.Core.Path.{_≡_, refl, ap, sym, _∙_}
 use mathlib.Core.Bool.{Bool, true, false, not, false≢true}
-use mathlib.Core.List.{List, [], _∷_, _++_, append-assoc}
+use mathlib.Core.List.{List, [], _∷_, _++_, append-assoc, flatten}
 use lib.ListN.{length, take, drop, set, length-append}
 use lib.Dec.{eqb}
 use borrow.Author.Tests.{not-true, not-false, lt-ltb, le-ltb, eq-eqb, ne-eqb}
@@ -29,7 +29,7 @@ use Rattle.unescape.specs.declared.bodies.Step.{Step}
 use Rattle.modes.specs.Modes.{isRaw, isSingle, charactersShouldBeAscii, byteMode}
 use Rattle.modes.specs.Errors.{Outcome, error, number}
 use Rattle.unescape.specs.Escapes.{escape}
-use Rattle.unescape.specs.Bodies.{Item, charOrByte, strChar, rawChar, isSkipped, sawLf, item, one, unskipped, skipped, slashed, strCommon, rawStr, turn, joined, turns, items, itemsOf, flat}
+use Rattle.unescape.specs.Bodies.{Item, charOrByte, strChar, rawChar, isSkipped, sawLf, item, one, unskipped, skipped, slashed, strCommon, rawStr, turn, turns, items, itemsOf, flat}
 use Rattle.unescape.specs.Steps.{endOf, stepOf, given, Scanned, onFirst, Stepped, wordsOf, Walked, Stored}
 use Rattle.unescape.specs.Outcome.{outcome, listed, Unescaped, part, single}
 use Rattle.unescape.proofs.Fair.{allows-any, escape-fair}
@@ -110,11 +110,11 @@ turned size mode c t =
 
 module _ (mode size : ℕ) where
   pub turns-nil : turns mode size [] ≡ []
-  unfolding turns joined
+  unfolding turns flatten
   turns-nil = rw (cut-nil (turn size mode))
 
   pub turns-cons : (c : ℕ) (t : List ℕ) → turns mode size (c ∷ t) ≡ turn size mode c t .0 ++ turns mode size (turn size mode c t .1)
-  unfolding turns joined
+  unfolding turns flatten
   turns-cons c t = rw (cut-cons (turn size mode) (λ c t. ends-length (turned size mode c t .ends)) c t)
 
   -- no more items than bytes

@@ -1,7 +1,7 @@
 -- The items of a body: start, end and outcome of each, on the characters of the body.
 -- Assumes nothing.
 use mathlib.Core.Bool.{Bool, false, cond, _||_}
-use mathlib.Core.List.{List, [], _∷_, _++_}
+use mathlib.Core.List.{List, [], _∷_, _++_, flatten}
 use Prim.Native.Nat.{ℕ, _-_}
 use lib.Dec.{eqb}
 use lib.ListN.{length}
@@ -101,14 +101,9 @@ module _ (size : ℕ) where
       let isByte = charactersShouldBeAscii mode in
       cond (isRaw mode) (rawStr isByte c t) (strCommon isByte c t)
 
--- lists one after the other
-unfoldable pub joined : List (List Item) → List Item
-joined [] = []
-joined (l ∷ ls) = l ++ joined ls
-
 -- what the characters give, one after the other
 unfoldable pub turns : ℕ → ℕ → List ℕ → List Item
-turns mode size l = joined (cut (turn size mode) l)
+turns mode size l = flatten (cut (turn size mode) l)
 
 -- ---- all items of a body of so many bytes, by the mode: one for Char and Byte
 unfoldable pub items : ℕ → ℕ → List ℕ → List Item

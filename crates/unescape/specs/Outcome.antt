@@ -3,9 +3,10 @@
 use Prim.Native.Nat.{ℕ, _-_, _/_, min}
 use mathlib.Core.Path.{_≡_}
 use mathlib.Core.Bool.{Bool, cond}
-use mathlib.Core.List.{List, _++_}
+use mathlib.Core.List.{List}
 use lib.Dec.{eqb}
 use lib.ListN.{length, take, drop}
+use Rattle.lists.specs.Over.{over}
 use Rattle.unicode.specs.Utf8.{chars}
 use Rattle.text.specs.Answer.{Answered, done, checkText, checkRoom, _andThen_}
 use Rattle.modes.specs.Modes.{checkMode}
@@ -21,8 +22,7 @@ outcome s mode words =
 -- the words of the items, and behind them what stood there; a refusal changes nothing
 unfoldable pub listed : List ℕ → ℕ → List ℕ → List ℕ
 listed s mode list =
-    let words = flat (itemsOf mode s) in
-    cond (eqb (outcome s mode (length list) .0) done) (words ++ drop (length words) list) list
+    cond (eqb (outcome s mode (length list) .0) done) (over (flat (itemsOf mode s)) list) list
 
 pub record Unescaped (s : List ℕ) (mode : ℕ) (list : List ℕ) (number also : ℕ) (list′ : List ℕ) : Type 0 where
   pub answer : Answered (outcome s mode (length list)) number also

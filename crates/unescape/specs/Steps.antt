@@ -5,8 +5,9 @@ use mathlib.Core.Path.{_≡_}
 use mathlib.Core.Bool.{Bool, true, false, cond}
 use mathlib.Core.List.{List, [], _∷_, _++_}
 use lib.Dec.{eqb}
-use lib.ListN.{length, drop}
+use lib.ListN.{length}
 use lib.Seq.{sets}
+use Rattle.lists.specs.Over.{over}
 use Rattle.unicode.specs.Text.{Place, left}
 use Rattle.text.specs.Answer.{Answered, done, checkRoom}
 use Rattle.unescape.specs.declared.escapes.Escape.{Escape}
@@ -90,4 +91,4 @@ pub record Walked (all : List Item) (write : Bool) (list : List ℕ) (n : ℕ) (
 -- the answer for a body that passed the checks, and the list
 pub record Stored (all : List Item) (list : List ℕ) (number also : ℕ) (list′ : List ℕ) : Type 0 where
   pub answer : Answered (checkRoom (length list / 3) (length all)) number also
-  pub words : list′ ≡ cond (eqb number done) (flat all ++ drop (length (flat all)) list) list
+  pub words : list′ ≡ cond (eqb number done) (over (flat all) list) list
