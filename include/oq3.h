@@ -206,12 +206,12 @@ oq3_run oq3_cut_run(const uint8_t *text, size_t text_len, size_t from, uint32_t 
 /* A token by its places in the text: where its suffix starts (its end, for a literal with none; its own start, for all else), and its end. */
 typedef struct oq3_piece {
     uint32_t kind;
-    size_t mark;
+    size_t suffix;
     size_t end;
 } oq3_piece;
 
 /*
- * The token at the byte `at`, as a run of one, with the same tables. Where a run gives no token kind is 0, which is no token's, and mark and end are `at`.
+ * The token at the byte `at`, as a run of one, with the same tables. Where a run gives no token kind is 0, which is no token's, and suffix and end are `at`.
  */
 oq3_piece oq3_token_at(const uint8_t *text, size_t text_len, size_t at, uint32_t profile, const uint32_t *start, size_t start_words,
                        const uint32_t *more, size_t more_words, const uint32_t *emoji, size_t emoji_words);
@@ -227,8 +227,8 @@ oq3_answer oq3_is_ident(const uint8_t *text, size_t text_len);
 /* ---- The renewal key ---------------------------------------------------------------------------------------------------------- */
 
 /*
- * The key of a text: two accepted texts have the same bytes as key, under one profile, exactly when their tokens other than white space and
- * closed comments are the same, one by one, in kind, length, suffix start and bytes. Refuses with 1, 2, 3 and 4.
+ * The key of a text: two accepted texts have the same bytes as key, under one profile, exactly when their tokens other than white space,
+ * line comments and closed block comments are the same, one by one, in kind, length, suffix start and bytes. Refuses with 1, 2, 3 and 4.
  *
  * With 0 exactly `also` bytes are written, from key[0] on, and those behind them are as they were. A key has at most 11 bytes for each
  * byte of text; where there is room for as many nothing is measured first, which is about twice as fast.
@@ -260,8 +260,8 @@ typedef struct oq3_comparison {
 } oq3_comparison;
 
 /*
- * Whether two texts have the same counted tokens, which are all but white space and closed comments, in kind, length, suffix start and bytes; and
- * if not, where they part. Of two accepted texts it is OQ3_SAME exactly where their keys are the same bytes, but no key is made. After a refusal
+ * Whether two texts have the same counted tokens, which are all but white space, line comments and closed block comments, in kind, length,
+ * suffix start and bytes; and if not, where they part. Of two accepted texts it is OQ3_SAME exactly where their keys are the same bytes, but no key is made. After a refusal
  * agreed and both sights are 0.
  */
 oq3_comparison oq3_compare(const uint8_t *old_text, size_t old_len, const uint8_t *new_text, size_t new_len, uint32_t profile);

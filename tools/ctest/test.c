@@ -23,7 +23,7 @@ typedef char char_16[sizeof(oq3_char) == 16 && offsetof(oq3_char, wide) == 8 ? 1
 typedef char token_12[sizeof(oq3_token) == 12 && sizeof(oq3_item) == 12 ? 1 : -1];
 typedef char rows_784[sizeof(oq3_records) == 768 && sizeof(oq3_rows) == 784 && offsetof(oq3_rows, row) == 16 ? 1 : -1];
 typedef char run_16[sizeof(oq3_run) == 16 && offsetof(oq3_run, count) == 8 ? 1 : -1];
-typedef char piece_24[sizeof(oq3_piece) == 24 && offsetof(oq3_piece, mark) == 8 && offsetof(oq3_piece, end) == 16 ? 1 : -1];
+typedef char piece_24[sizeof(oq3_piece) == 24 && offsetof(oq3_piece, suffix) == 8 && offsetof(oq3_piece, end) == 16 ? 1 : -1];
 typedef char sight_24[sizeof(oq3_sight) == 24 && offsetof(oq3_sight, start) == 8 && offsetof(oq3_sight, length) == 16 ? 1 : -1];
 typedef char comparison_80[sizeof(oq3_comparison) == 80 && offsetof(oq3_comparison, refusal) == 8 && offsetof(oq3_comparison, agreed) == 24
                                    && offsetof(oq3_comparison, in_old) == 32 && offsetof(oq3_comparison, in_new) == 56
@@ -249,9 +249,9 @@ static bool holds_words(size_t n, size_t room, const uint32_t *want) {
     return framed(n, room) && clean(room, 0) && memcmp(list, want, 4 * n) == 0;
 }
 
-static bool piece(const uint8_t *text, size_t len, size_t at, uint32_t profile, letters u, uint32_t kind, size_t mark, size_t end) {
+static bool piece(const uint8_t *text, size_t len, size_t at, uint32_t profile, letters u, uint32_t kind, size_t suffix, size_t end) {
     oq3_piece p = oq3_token_at(text, len, at, profile, u.start, u.starts, u.more, u.mores, u.emoji, u.emojis);
-    return p.kind == kind && p.mark == mark && p.end == end;
+    return p.kind == kind && p.suffix == suffix && p.end == end;
 }
 
 static void runs(void) {
@@ -814,13 +814,13 @@ static void body(void) {
     say_records(oq3_unescape_part(text, text_len, at + 1, end, mode, list, OQ3_WORDS * (text_len + 1)));
 }
 
-/* the n tokens that were given, one by one: of what is no literal, and so has the suffix start 0, the mark is its own start */
+/* the n tokens that were given, one by one: of what is no literal, and so has the suffix start 0, suffix is its own start */
 static bool by_places(uint32_t profile, const uint32_t *want, size_t n) {
     const property *u = properties;
     size_t at = 0, i;
     for (i = 0; i < n; i++) {
         oq3_piece p = oq3_token_at(text, text_len, at, profile, u[XID_START].table, u[XID_START].words, u[XID_CONTINUE].table, u[XID_CONTINUE].words, u[EMOJI].table, u[EMOJI].words);
-        if (p.kind != want[3 * i] || p.end != at + want[3 * i + 1] || p.mark != at + want[3 * i + 2])
+        if (p.kind != want[3 * i] || p.end != at + want[3 * i + 1] || p.suffix != at + want[3 * i + 2])
             return false;
         at = p.end;
     }

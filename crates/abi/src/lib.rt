@@ -96,7 +96,7 @@ pub extern "C" fn oq3_token_at(
     more: &[u32],
     emoji: &[u32],
 ) -> Piece
-    ensures { λ r. ⌜ TokenAt (lent (now (start .entry)) (now (more .entry)) (now (emoji .entry))) profile (now (text .entry)) at (r .kind) (r .mark) (r .end) ⌝ }
+    ensures { λ r. ⌜ TokenAt (lent (now (start .entry)) (now (more .entry)) (now (emoji .entry))) profile (now (text .entry)) at (r .kind) (r .suffix) (r .end) ⌝ }
 {
     token_at(text, at, profile, start, more, emoji)
 }

@@ -10,7 +10,7 @@ use Rattle.lists.proofs.Bools.{by-test}
 use Rattle.unicode.specs.Utf8.{isScalar}
 use Rattle.unicode.specs.Ranges.{inTable}
 use Rattle.unicode.proofs.First.{scalar-low}
-use Rattle.unicode.proofs.Rows.{every, each}
+use Rattle.unicode.proofs.Rows.{each}
 use Rattle.ucd.proofs.Rising.{scalar-in, start-scalar, continue-scalar}
 use Rattle.letters.specs.Chars.{whitespace, isWhitespace, isIdStart, isIdContinue}
 

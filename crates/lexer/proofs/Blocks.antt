@@ -19,7 +19,7 @@ use Rattle.unicode.proofs.Text.{chars-nil, chars-first, from-place}
 use Rattle.unicode.proofs.Ascii.{wide, chars-ascii}
 use Rattle.lexer.specs.Cut.{peek, notLf, opens, closes, block, slash}
 use Rattle.lexer.specs.Kinds.{lineComment, blockComment, unclosedComment, slashMark}
-use Rattle.lexer.specs.Steps.{Parted, Flagged}
+use Rattle.lexer.specs.Steps.{Parted}
 use Rattle.lexer.proofs.Bytewise.{peek-same, tail-same, tail-less, peek-drop, tail-drop, stands}
 
 -- ---- one turn
@@ -114,7 +114,7 @@ module _ {s : List ℕ} where
   pub blocking-none : {at : ℕ} → at ≤ length s → Blocking s at 1 at
   blocking-none h = record { after = omega arith; within = h; some = omega arith; deep = omega arith; same = refl }
 
-  flagged : {at₀ at : ℕ} {b : Bool} → at₀ ≤ at → at ≤ length s → block 1 (drop at₀ s) ≡ (b, drop at s) → Flagged (block 1) s at₀ b at
+  flagged : {at₀ at : ℕ} {b : Bool} → at₀ ≤ at → at ≤ length s → block 1 (drop at₀ s) ≡ (b, drop at s) → Parted (block 1) s at₀ b at
   flagged {at₀} {at} {b} a w q =
       let e : block 1 (left s at₀) ≡ (b, left s at) = block-bytes (drop at₀ s) 1 ∙ ap (λ (r : Bool × List ℕ). (r .0, chars (r .1))) q in
       record {
@@ -122,7 +122,7 @@ module _ {s : List ℕ} where
         place = record { after = a; within = w; there = ap (λ (r : Bool × List ℕ). r .1) (sym e) };
       }
 
-  pub block-unclosed : {at₀ d at : ℕ} → Blocking s at₀ d at → length s ≤ at → Flagged (block 1) s at₀ false at
+  pub block-unclosed : {at₀ d at : ℕ} → Blocking s at₀ d at → length s ≤ at → Parted (block 1) s at₀ false at
   block-unclosed {at₀} {d} {at} e h = flagged (e .after) (e .within) (sym (e .same) ∙ rw (drop-of-length-le s {i = at} h) (block-nil d))
 
   -- one turn: the bytes at `at` and behind it
@@ -153,7 +153,7 @@ module _ {s : List ℕ} where
           let k : getD s (at + 1) 0 ≡ 0x2F = eqb-true (getD s (at + 1) 0) 0x2F (both (eqb (getD s at 0) 0x2A) (eqb (getD s (at + 1) 0) 0x2F) (sym o′ ∙ i) .1) in
           omega (arith, stands (at + 1) s (omega arith))
 
-      pub block-closed : {d′ at′ : ℕ} → b′ ≡ true → d′ ≡ d - 1 → d′ ≡ 0 → at′ ≡ at + 2 → Flagged (block 1) s at₀ true at′
+      pub block-closed : {d′ at′ : ℕ} → b′ ≡ true → d′ ≡ d - 1 → d′ ≡ 0 → at′ ≡ at + 2 → Parted (block 1) s at₀ true at′
       block-closed i v z u =
           flagged (omega (arith, e .after)) (omega (arith, shut-within i))
           (sym here ∙ block-shut d (getD s at 0) (drop (at + 1) s) (omega arith) (opened t) (closing i) ∙ rw u (ap (λ (x : List ℕ). (true, x)) (tail-drop at s)))
@@ -188,7 +188,7 @@ module _ {s : List ℕ} {at x : ℕ} (f : x ≡ peek (left s at)) where
       let h : eqb (peek (left s at)) 0x2F ≡ true = eq-eqb _ _ (sym f ∙ e) in
       record { what = rw h k; place = rw h (from-place p q (ap (skip notLf) (p .there))) }
 
-  pub slash-block : {a end kind : ℕ} {b : Bool} → (x ≡ 0x2F → ⊥) → x ≡ 0x2A → Place s at a (tail (left s at)) → Flagged (block 1) s a b end → kind ≡ cond b blockComment unclosedComment → Parted slash s at kind end
+  pub slash-block : {a end kind : ℕ} {b : Bool} → (x ≡ 0x2F → ⊥) → x ≡ 0x2A → Place s at a (tail (left s at)) → Parted (block 1) s a b end → kind ≡ cond b blockComment unclosedComment → Parted slash s at kind end
   unfolding slash
   slash-block {a} n e p q k =
       let h : eqb (peek (left s at)) 0x2F ≡ false = ne-eqb _ _ (λ z. n (f ∙ z)) in

@@ -13,7 +13,7 @@ use Rattle.unicode.proofs.Text.{from-place}
 use Rattle.lexer.specs.Cut.{peek, isDigit, isHexDigit, isE, orUnderscore, met, digits, exponent, exponentOf, point, fraction, based, number, isUnit, identifier, suffix}
 use Rattle.lexer.specs.Kinds.{int, float}
 use Rattle.lexer.specs.Unicode.{startIn, moreIn, lent}
-use Rattle.lexer.specs.Steps.{Parted, Flagged}
+use Rattle.lexer.specs.Steps.{Parted}
 
 -- the place itself
 pub stay : {s : List ℕ} {at : ℕ} → at ≤ length s → Place s at at (left s at)
@@ -24,13 +24,13 @@ pub parted : (f : List ℕ → ℕ × List ℕ) (s : List ℕ) (at : ℕ) {kind 
 parted f s at x e k p = record { what = rw e k; place = rw e p }
 
 -- digits, as a definition and as the loop that eats them
-pub ate-digits : (q : ℕ → Bool) {s : List ℕ} {at end : ℕ} {any : Bool} → Ate (orUnderscore q) (met q) s at false end any → Flagged (digits q) s at any end
+pub ate-digits : (q : ℕ → Bool) {s : List ℕ} {at end : ℕ} {any : Bool} → Ate (orUnderscore q) (met q) s at false end any → Parted (digits q) s at any end
 unfolding digits
 ate-digits q a = record { what = a .state; place = a .place }
 
 -- ---- the exponent
 module _ (s : List ℕ) (at : ℕ) {x : ℕ} {b : Bool} (f : x ≡ peek (left s at)) (o : b ≡ (eqb x 0x2D || eqb x 0x2B)) where
-  pub exponent-signed : {a end : ℕ} {any : Bool} → b ≡ true → Place s at a (tail (left s at)) → Ate (orUnderscore isDigit) (met isDigit) s a false end any → Flagged exponent s at any end
+  pub exponent-signed : {a end : ℕ} {any : Bool} → b ≡ true → Place s at a (tail (left s at)) → Ate (orUnderscore isDigit) (met isDigit) s a false end any → Parted exponent s at any end
   unfolding exponent
   exponent-signed t p q =
       let h : (eqb (peek (left s at)) 0x2D || eqb (peek (left s at)) 0x2B) ≡ true = rw f at (sym o ∙ t) in
@@ -40,14 +40,14 @@ module _ (s : List ℕ) (at : ℕ) {x : ℕ} {b : Bool} (f : x ≡ peek (left s 
         place = rw h (from-place p (d .place) (ap (λ (l : List ℕ). digits isDigit l .1) (p .there)));
       }
 
-  pub exponent-plain : {end : ℕ} {any : Bool} → b ≡ false → Ate (orUnderscore isDigit) (met isDigit) s at false end any → Flagged exponent s at any end
+  pub exponent-plain : {end : ℕ} {any : Bool} → b ≡ false → Ate (orUnderscore isDigit) (met isDigit) s at false end any → Parted exponent s at any end
   unfolding exponent
   exponent-plain t q =
       let h : (eqb (peek (left s at)) 0x2D || eqb (peek (left s at)) 0x2B) ≡ false = rw f at (sym o ∙ t) in
       let d = ate-digits isDigit q in
       record { what = rw h (d .what); place = rw h (d .place) }
 
-module _ (base : ℕ) {s : List ℕ} {at end kind : ℕ} {any : Bool} (q : Flagged exponent s at any end) where
+module _ (base : ℕ) {s : List ℕ} {at end kind : ℕ} {any : Bool} (q : Parted exponent s at any end) where
   pub exponent-some : any ≡ true → kind ≡ 48 + 2 * base → Parted (exponentOf base) s at kind end
   unfolding exponentOf
   exponent-some t k =

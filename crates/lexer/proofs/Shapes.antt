@@ -150,7 +150,7 @@ pound-part t =
     on-cond (Plain t) (eqb (agree pragmaWord t) 6) (record { listed = refl; ends = ends-skip notLf t }) (record { listed = refl; ends = ends-drop (agree pragmaWord t) t })
 
 -- ---- marks: what holds of the kinds of a whole list of marks, by one computed test, holds of the kind that it has for a character
-pub mark-has : (p : ℕ → Bool) (ms : List (ℕ × ℕ)) (c : ℕ) → all (λ m. p (m .1)) ms ≡ true → eqb (markIn ms c 0) 0 ≡ false → p (markIn ms c 0) ≡ true
+pub mark-has : (p : ℕ → Bool) (ms : List (ℕ × ℕ)) (c : ℕ) → all (λ m. p (m .1)) ms ≡ true → eqb (markIn ms c) 0 ≡ false → p (markIn ms c) ≡ true
 unfolding markIn all
 mark-has p [] c h n = absurd (false≢true (sym n))
 mark-has p (m ∷ ms) c h n =
@@ -163,10 +163,10 @@ all-marked = refl
 
 -- ---- a token: a plain kind and no suffix start, or a literal, whose suffix starts behind its first character
 pub data Shape (c : ℕ) (t : List ℕ) (a : Token) : Type 0 where
-  plain : isPlain (a .kind) ≡ true → a .mark ≡ c ∷ t → Ends (a .rest) t → Shape c t a
-  literal : isLiteral (a .kind) ≡ true → Ends (a .mark) t → Ends (a .rest) (a .mark) → Shape c t a
+  plain : isPlain (a .kind) ≡ true → a .suff ≡ c ∷ t → Ends (a .rest) t → Shape c t a
+  literal : isLiteral (a .kind) ≡ true → Ends (a .suff) t → Ends (a .rest) (a .suff) → Shape c t a
 
-plainly : {c : ℕ} {t : List ℕ} {r : ℕ × List ℕ} → Plain t r → Shape c t (record { kind = r .0; mark = c ∷ t; rest = r .1 })
+plainly : {c : ℕ} {t : List ℕ} {r : ℕ × List ℕ} → Plain t r → Shape c t (record { kind = r .0; suff = c ∷ t; rest = r .1 })
 plainly p = plain (p .listed) refl (p .ends)
 
 module _ (u : Letters) where
@@ -207,7 +207,7 @@ module _ (u : Letters) where
       let P = Shape c t in
       let n = number c t in
       let q = quoted t in
-      let m = markIn marks c 0 in
+      let m = markIn marks c in
       on-cond P (eqb c 0x2F) (plainly (slash-part t))
       (on-cond P (isWhitespace c) (plainly (record { listed = refl; ends = ends-skip isWhitespace t }))
       (on-cond P (u .start c) (plainly (word-part profile c t))

@@ -29,13 +29,13 @@ token-at-unique p q = (p .what ∙ sym (q .what), p .start ∙ sym (q .start), p
 pub place-unique : {s : List ℕ} {low at at′ : ℕ} {l : List ℕ} → low ≤ length s → Place s low at l → Place s low at′ l → at ≡ at′
 place-unique h p q = omega (arith, between h p, between h q, p .after, q .after)
 
-module _ {u : Letters} {profile : ℕ} {s : List ℕ} {at kind mark end kind′ mark′ end′ : ℕ} where
-  cuts-unique : at < length s → Cuts u profile s at kind mark end → Cuts u profile s at kind′ mark′ end′ → (kind ≡ kind′) × (mark ≡ mark′) × (end ≡ end′)
+module _ {u : Letters} {profile : ℕ} {s : List ℕ} {at kind suff end kind′ suff′ end′ : ℕ} where
+  cuts-unique : at < length s → Cuts u profile s at kind suff end → Cuts u profile s at kind′ suff′ end′ → (kind ≡ kind′) × (suff ≡ suff′) × (end ≡ end′)
   cuts-unique h a b =
       let l : at ≤ length s = omega arith in
       (a .what ∙ sym (b .what), place-unique l (a .start) (b .start), place-unique l (a .place) (b .place))
 
-  pub advanced-unique : Advanced u profile s at kind mark end → Advanced u profile s at kind′ mark′ end′ → (kind ≡ kind′) × (mark ≡ mark′) × (end ≡ end′)
+  pub advanced-unique : Advanced u profile s at kind suff end → Advanced u profile s at kind′ suff′ end′ → (kind ≡ kind′) × (suff ≡ suff′) × (end ≡ end′)
   advanced-unique a b =
       by-test (ltb at (length s))
       (λ t. let h = ltb-true at (length s) t in cuts-unique h (a .before-end h) (b .before-end h))

@@ -22,7 +22,7 @@ use Rattle.text.proofs.Checks.{cut-accepted}
 use Rattle.lexer.specs.Cut.{Letters, Tok, token, piece, tokens, flat, total}
 use Rattle.lexer.specs.Unicode.{unicode}
 use Rattle.lexer.specs.Steps.{Cuts, Advanced, Filled, Stored}
-use Rattle.lexer.specs.Outcome.{tokensOf, outcome, listed, Listed, runFrom, run, CutRun, front, TokenAt}
+use Rattle.lexer.specs.Outcome.{tokensOf, answerOf, listed, Listed, runFrom, run, CutRun, front, TokenAt}
 use Rattle.lexer.proofs.Shapes.{tokens-nil, tokens-cons}
 
 -- three words for each token
@@ -39,16 +39,16 @@ module _ (u : Letters) (profile : ℕ) where
 
   -- the record of the token at the front
   abbrev record-of : List ℕ → Tok
-  record-of l = record { kind = token u profile l .kind; len = bytes l - bytes (token u profile l .rest); suff = bytes l - bytes (token u profile l .mark) }
+  record-of l = record { kind = token u profile l .kind; len = bytes l - bytes (token u profile l .rest); suff = bytes l - bytes (token u profile l .suff) }
 
   tokens-step : (c : ℕ) (t : List ℕ) → tokens u profile (c ∷ t) ≡ record-of (c ∷ t) ∷ tokens u profile (token u profile (c ∷ t) .rest)
   unfolding token piece
   tokens-step c t = tokens-cons u profile c t
 
   -- the first token at a place before the end
-  pub tokens-at : {s : List ℕ} {at kind mark end : ℕ} → at < length s → Cuts u profile s at kind mark end →
-      tokens u profile (left s at) ≡ record { kind = kind; len = end - at; suff = mark - at } ∷ tokens u profile (left s end)
-  tokens-at {s} {at} {kind} {mark} {end} h a =
+  pub tokens-at : {s : List ℕ} {at kind suff end : ℕ} → at < length s → Cuts u profile s at kind suff end →
+      tokens u profile (left s at) ≡ record { kind = kind; len = end - at; suff = suff - at } ∷ tokens u profile (left s end)
+  tokens-at {s} {at} {kind} {suff} {end} h a =
       let c = point-at s at h in
       let q : tokens u profile (left s at) ≡ record-of (left s at) ∷ tokens u profile (token u profile (left s at) .rest) = (rw (c .view) (tokens-step _ _)) in
       q ∙ rw (← a .what, between (omega arith) (a .place), between (omega arith) (a .start), ← a .place .there)
@@ -76,13 +76,13 @@ module _ {u : Letters} {profile : ℕ} {s list₀ list : List ℕ} {from room at
   pub fill-three : {k : ℕ} → n < room → k ≡ 3 * n → k + 3 ≤ length list
   fill-three h e = omega (arith, w .full, w .long)
 
-  module _ {kind mark end n′ k : ℕ} {list′ : List ℕ} (l : n < room) (h : at < length s) (a : Advanced u profile s at kind mark end) where
-    pub fill-on : k ≡ 3 * n → list′ ≡ set (set (set list k kind) (k + 1) (end - at)) (k + 2) (mark - at) → n′ ≡ n + 1 → Filling u profile s from list₀ room end n′ list′
+  module _ {kind suff end n′ k : ℕ} {list′ : List ℕ} (l : n < room) (h : at < length s) (a : Advanced u profile s at kind suff end) where
+    pub fill-on : k ≡ 3 * n → list′ ≡ set (set (set list k kind) (k + 1) (end - at)) (k + 2) (suff - at) → n′ ≡ n + 1 → Filling u profile s from list₀ room end n′ list′
     unfolding flat
     fill-on v e f =
         let cuts = a .before-end h in
         let ts = tokens u profile (left s end) in
-        let t : Tok = record { kind = kind; len = end - at; suff = mark - at } in
+        let t : Tok = record { kind = kind; len = end - at; suff = suff - at } in
         let view : tokens u profile (left s at) ≡ t ∷ ts = tokens-at u profile h cuts in
         let less : room - n ≡ suc (room - n′) = omega arith in
         let front : runFrom u profile s at (room - n) ≡ t ∷ runFrom u profile s end (room - n′) = rw (less, view) in
@@ -195,13 +195,13 @@ module _ {u : Letters} {profile : ℕ} {s list list′ : List ℕ} {number also 
 
 -- ---- the whole
 pub listed-refused : {s list list′ : List ℕ} {profile number also : ℕ} → Answered (checkCut s profile) number also → (number ≡ done → ⊥) → list′ ≡ list → Listed s profile list number also list′
-unfolding outcome listed
+unfolding answerOf listed
 listed-refused {s} {list} {list′} {profile} {number} {also} a n e =
     let h : eqb (checkCut s profile .0) done ≡ false = ne-eqb _ _ (λ z. n (a .number-is ∙ z)) in
     record { answer = rw h a; words = rw (h, h) e }
 
 pub listed-done : {s list list′ : List ℕ} {profile n₀ a₀ number also : ℕ} → Answered (checkCut s profile) n₀ a₀ → n₀ ≡ done → Stored unicode profile s list number also list′ → Listed s profile list number also list′
-unfolding outcome listed tokensOf
+unfolding answerOf listed tokensOf
 listed-done {s} {list} {list′} {profile} c z r =
     let h : eqb (checkCut s profile .0) done ≡ true = eq-eqb _ _ (sym (c .number-is) ∙ z) in
     record { answer = rw h (r .answer); words = rw (h, ← r .answer .number-is) (r .words) }
@@ -241,15 +241,15 @@ module _ {u : Letters} {profile : ℕ} {s list′ : List ℕ} {at end count : �
   pub one-suffix : at + getD list′ 2 0 ≤ max at (length s)
   one-suffix = omega (arith, one-within u profile s at .0, one-words (one u profile s at) (one-few u profile s at) (r .words) .1)
 
-  pub one-token : {kind mark end′ : ℕ} → kind ≡ getD list′ 0 0 → mark ≡ at + getD list′ 2 0 → end′ ≡ end → TokenAt u profile s at kind mark end′
+  pub one-token : {kind suff end′ : ℕ} → kind ≡ getD list′ 0 0 → suff ≡ at + getD list′ 2 0 → end′ ≡ end → TokenAt u profile s at kind suff end′
   one-token k m e =
       let w = one-words (one u profile s at) (one-few u profile s at) (r .words) in
       record { what = k ∙ w .0; start = m ∙ ap (λ (n : ℕ). at + n) (w .1); place = e ∙ r .reached ∙ ap (λ (n : ℕ). at + n) (w .2) }
 
 -- a place of the token is at or behind its start, and within the text
-module _ {u : Letters} {profile : ℕ} {s : List ℕ} {at kind mark end : ℕ} (a : TokenAt u profile s at kind mark end) where
-  pub one-mark : (at ≤ mark) × (mark ≤ max at (length s))
-  one-mark = (omega (arith, a .start), omega (arith, a .start, one-within u profile s at .0))
+module _ {u : Letters} {profile : ℕ} {s : List ℕ} {at kind suff end : ℕ} (a : TokenAt u profile s at kind suff end) where
+  pub one-start : (at ≤ suff) × (suff ≤ max at (length s))
+  one-start = (omega (arith, a .start), omega (arith, a .start, one-within u profile s at .0))
 
   pub one-end : (at ≤ end) × (end ≤ max at (length s))
   one-end = (omega (arith, a .place), omega (arith, a .place, one-within u profile s at .1))

@@ -66,6 +66,22 @@ slash t =
     (let b = block 1 (tail t) in (cond (b .0) blockComment unclosedComment, b .1))
     (slashMark, t))
 
+-- ---- pragmas
+-- the bytes of pragma, and how much of a list agrees with a word
+abbrev pub pragmaWord : List ℕ
+pragmaWord = 0x70 ∷ 0x72 ∷ 0x61 ∷ 0x67 ∷ 0x6D ∷ 0x61 ∷ []
+
+unfoldable pub agree : List ℕ → List ℕ → ℕ
+agree [] t = 0
+agree (w ∷ ws) [] = 0
+agree (w ∷ ws) (c ∷ t) = cond (eqb c w) (suc (agree ws t)) 0
+
+-- behind #: the bytes pragma make a Pragma of the line; else what agrees with them is an InvalidIdent
+unfoldable pub pound : List ℕ → ℕ × List ℕ
+pound t =
+    let n = agree pragmaWord t in
+    cond (eqb n 6) (pragma, skip notLf t) (invalidIdent, drop n t)
+
 -- ---- numbers
 -- digits and underscores are eaten: whether there was a digit, and what is left
 abbrev pub orUnderscore : (ℕ → Bool) → ℕ → Bool
@@ -147,7 +163,7 @@ quoted [] = record { closed = false; body = []; rest = [] }
 quoted (c ∷ []) = record { closed = eqb c 0x22; body = cond (eqb c 0x22) [] (c ∷ []); rest = [] }
 quoted (c ∷ x ∷ t) = step (eqb c 0x22) (escapes c x) c x t (λ u. quoted t) (λ u. quoted (x ∷ t))
 
--- only 0, 1 and underscores
+-- a character of a bit string
 abbrev pub isBit : ℕ → Bool
 isBit c = eqb c 0x30 || (eqb c 0x31 || eqb c 0x5F)
 
@@ -170,34 +186,18 @@ quoteKind q =
     (bitStr (q .closed) (twice (q .body)))
     (str (q .closed))
 
--- ---- words
--- the bytes of pragma, and how much of a list agrees with a word
-abbrev pub pragmaWord : List ℕ
-pragmaWord = 0x70 ∷ 0x72 ∷ 0x61 ∷ 0x67 ∷ 0x6D ∷ 0x61 ∷ []
-
-unfoldable pub agree : List ℕ → List ℕ → ℕ
-agree [] t = 0
-agree (w ∷ ws) [] = 0
-agree (w ∷ ws) (c ∷ t) = cond (eqb c w) (suc (agree ws t)) 0
-
--- behind #: the bytes pragma make a Pragma of the line; else what agrees with them is an InvalidIdent
-unfoldable pub pound : List ℕ → ℕ × List ℕ
-pound t =
-    let n = agree pragmaWord t in
-    cond (eqb n 6) (pragma, skip notLf t) (invalidIdent, drop n t)
-
 -- ---- a token: its kind, what is left where its suffix starts (of a literal with none, behind it; of all else, from its own start on), and what
 -- is left behind it
 pub record Token : Type 0 where
   pub kind : ℕ
-  pub mark : List ℕ
+  pub suff : List ℕ
   pub rest : List ℕ
 
 plain : ℕ → List ℕ → ℕ × List ℕ → Token
-plain c t r = record { kind = r .0; mark = c ∷ t; rest = r .1 }
+plain c t r = record { kind = r .0; suff = c ∷ t; rest = r .1 }
 
 literal : ℕ → List ℕ → List ℕ → Token
-literal k m r = record { kind = k; mark = m; rest = r }
+literal k m r = record { kind = k; suff = m; rest = r }
 
 -- a token record: kind, length, suffix start
 pub record Tok : Type 0 where
@@ -223,6 +223,13 @@ module _ (u : Letters) where
   unfoldable pub word : ℕ → ℕ → List ℕ → ℕ × List ℕ
   word profile c t = cond (eqb profile 1 && eqb (agree pragmaWord (c ∷ t)) 6) (pragma, skip notLf t) (name t)
 
+  -- an identifier eaten as a suffix; a unit is no suffix of a number
+  unfoldable pub identifier : List ℕ → List ℕ
+  identifier t = cond (u .start (peek t)) (skip (u .more) (tail t)) t
+
+  unfoldable pub suffix : List ℕ → List ℕ
+  suffix t = cond (isUnit (peek t) (peek (tail t))) t (identifier t)
+
   -- behind @
   unfoldable pub annotated : List ℕ → ℕ × List ℕ
   annotated t = cond (u .start (peek t)) (annotation, skip notLf t) (atSign, t)
@@ -233,20 +240,13 @@ module _ (u : Letters) where
       cond (wideEmoji (peek t)) (invalidIdent, skip goesOn (skip (u .more) t))
       (let d = digits isDigit t in (cond (d .0) hardwareIdent dollar, d .1))
 
-  -- an identifier eaten as a suffix; a unit is no suffix of a number
-  unfoldable pub identifier : List ℕ → List ℕ
-  identifier t = cond (u .start (peek t)) (skip (u .more) (tail t)) t
-
-  unfoldable pub suffix : List ℕ → List ℕ
-  suffix t = cond (isUnit (peek t) (peek (tail t))) t (identifier t)
-
   -- ---- the token that c ∷ t begins with, by its first character, in the order of the tests
   unfoldable pub advance : ℕ → ℕ → List ℕ → Token
   unfolding plain literal
   advance profile c t =
       let n = number c t in
       let q = quoted t in
-      let m = markIn marks c 0 in
+      let m = markIn marks c in
       cond (eqb c 0x2F) (plain c t (slash t))
       (cond (isWhitespace c) (plain c t (whitespaceKind, skip isWhitespace t))
       (cond (u .start c) (plain c t (word profile c t))
@@ -261,14 +261,14 @@ module _ (u : Letters) where
 
   -- of no text there is no token
   unfoldable pub token : ℕ → List ℕ → Token
-  token profile [] = record { kind = eof; mark = []; rest = [] }
+  token profile [] = record { kind = eof; suff = []; rest = [] }
   token profile (c ∷ t) = advance profile c t
 
   -- ---- the whole text: for each token its kind, its length in bytes, and the bytes before its suffix
   unfoldable pub piece : ℕ → ℕ → List ℕ → Tok × List ℕ
   piece profile c t =
       let a = advance profile c t in
-      (record { kind = a .kind; len = bytes (c ∷ t) - bytes (a .rest); suff = bytes (c ∷ t) - bytes (a .mark) }, a .rest)
+      (record { kind = a .kind; len = bytes (c ∷ t) - bytes (a .rest); suff = bytes (c ∷ t) - bytes (a .suff) }, a .rest)
 
   unfoldable pub tokens : ℕ → List ℕ → List Tok
   tokens profile = cut (piece profile)

@@ -45,9 +45,6 @@ dollar = 24
 abbrev pub slashMark : ℕ
 slashMark = 34
 
-abbrev pub unknown : ℕ
-unknown = 37
-
 -- the single marks ; , . ( ) { } [ ] ~ ? : = ! < > - & | + * ^ % and their kinds
 unfoldable pub marks : List (ℕ × ℕ)
 marks =
@@ -75,12 +72,15 @@ marks =
     (0x5E, 35) ∷
     (0x25, 36) ∷ []
 
--- the kind that a list of marks has for c, or else the kind k
-unfoldable pub markIn : List (ℕ × ℕ) → ℕ → ℕ → ℕ
-markIn [] c k = k
-markIn (m ∷ ms) c k = cond (eqb c (m .0)) (m .1) (markIn ms c k)
+-- the kind that a list of marks has for c, or 0
+unfoldable pub markIn : List (ℕ × ℕ) → ℕ → ℕ
+markIn [] c = 0
+markIn (m ∷ ms) c = cond (eqb c (m .0)) (m .1) (markIn ms c)
 
--- the places of the bases among the kinds: binary 0, octal 1, decimal 2, hexadecimal 3
+abbrev pub unknown : ℕ
+unknown = 37
+
+-- Int and Float, by the place of the base: binary 0, octal 1, decimal 2, hexadecimal 3
 abbrev pub int : ℕ → Bool → ℕ
 int base empty = 40 + 2 * base + cond empty 1 0
 

@@ -15,21 +15,24 @@ use Rattle.lexer.specs.Kinds.{eof}
 use Rattle.lexer.specs.Cut.{Letters, Tok, tokens, flat, total}
 use Rattle.lexer.specs.Unicode.{unicode}
 
--- the tokens of a text
+-- the tokens of a text, over any letters, and over Unicode's
+abbrev pub tokensBy : Letters → ℕ → List ℕ → List Tok
+tokensBy u profile s = tokens u profile (chars s)
+
 unfoldable pub tokensOf : ℕ → List ℕ → List Tok
-tokensOf profile s = tokens unicode profile (chars s)
+tokensOf profile s = tokensBy unicode profile s
 
 -- the number and what is also returned, for a list of so many words: three words for each token
-unfoldable pub outcome : List ℕ → ℕ → ℕ → ℕ × ℕ
-outcome s profile words = checkCut s profile andThen checkRoom (words / 3) (length (tokensOf profile s))
+unfoldable pub answerOf : List ℕ → ℕ → ℕ → ℕ × ℕ
+answerOf s profile words = checkCut s profile andThen checkRoom (words / 3) (length (tokensOf profile s))
 
 -- the words of the tokens, and behind them what stood there; a refusal changes nothing
 unfoldable pub listed : List ℕ → ℕ → List ℕ → List ℕ
 listed s profile list =
-    cond (eqb (outcome s profile (length list) .0) done) (over (flat (tokensOf profile s)) list) list
+    cond (eqb (answerOf s profile (length list) .0) done) (over (flat (tokensOf profile s)) list) list
 
 pub record Listed (s : List ℕ) (profile : ℕ) (list : List ℕ) (number also : ℕ) (list′ : List ℕ) : Type 0 where
-  pub answer : Answered (outcome s profile (length list)) number also
+  pub answer : Answered (answerOf s profile (length list)) number also
   pub words : list′ ≡ listed s profile list
 
 -- the tokens from a place on, as many as there is room for
@@ -59,10 +62,10 @@ front (t ∷ ts) = t
 abbrev pub tokenAt : Letters → ℕ → List ℕ → ℕ → Tok
 tokenAt u profile s at = front (run u profile s at 1)
 
--- what `token_at` answers: its kind, where its suffix starts, and where it ends
-pub record TokenAt (u : Letters) (profile : ℕ) (s : List ℕ) (at kind mark end : ℕ) : Type 0 where
+-- what `token_at` answers: its kind, where its suffix starts (of no literal, where it starts itself), and where it ends
+pub record TokenAt (u : Letters) (profile : ℕ) (s : List ℕ) (at kind suff end : ℕ) : Type 0 where
   pub what : kind ≡ tokenAt u profile s at .kind
-  pub start : mark ≡ at + tokenAt u profile s at .suff
+  pub start : suff ≡ at + tokenAt u profile s at .suff
   pub place : end ≡ at + tokenAt u profile s at .len
 
 -- whether a text is an identifier: 1 for yes, 0 for no

@@ -8,22 +8,16 @@ use lib.Dec.{eqb}
 use lib.ListN.{length, drop, getD}
 use lib.Seq.{sets}
 use Rattle.lists.specs.Over.{over}
-use Rattle.unicode.specs.Utf8.{chars}
 use Rattle.text.specs.Answer.{Answered, done, checkRoom}
 use Rattle.unicode.specs.Text.{Place, left, skip}
 use Rattle.letters.specs.Chars.{isWhitespace}
 use Rattle.lexer.specs.Kinds.{eof}
-use Rattle.lexer.specs.Cut.{Letters, Tok, agree, isBit, isDigit, quoted, quoteKind, token, tokens, flat, total}
-use Rattle.lexer.specs.Outcome.{runFrom}
+use Rattle.lexer.specs.Cut.{Letters, agree, isBit, isDigit, quoted, quoteKind, token, tokens, flat, total}
+use Rattle.lexer.specs.Outcome.{tokensBy, runFrom}
 
--- a number and a place, by a definition that gives a number and what is left
-pub record Parted (f : List ℕ → ℕ × List ℕ) (s : List ℕ) (at kind end : ℕ) : Type 0 where
-  pub what : kind ≡ f (left s at) .0
-  pub place : Place s at end (f (left s at) .1)
-
--- a flag and a place
-pub record Flagged (f : List ℕ → Bool × List ℕ) (s : List ℕ) (at : ℕ) (flag : Bool) (end : ℕ) : Type 0 where
-  pub what : flag ≡ f (left s at) .0
+-- a kind or a flag, and a place, by a definition that gives it and what is left
+pub record Parted {A : Type 0} (f : List ℕ → A × List ℕ) (s : List ℕ) (at : ℕ) (x : A) (end : ℕ) : Type 0 where
+  pub what : x ≡ f (left s at) .0
   pub place : Place s at end (f (left s at) .1)
 
 -- a run of what passes a test, from `at` to `end`, that stops at ASCII only where the test fails
@@ -63,13 +57,13 @@ pub record Stands (s : List ℕ) (at c next : ℕ) : Type 0 where
   pub within : next ≤ length s
   pub view : left s at ≡ c ∷ left s next
 
--- c begins no comment, no white space and no identifier
+-- c is no slash and no white space, and begins no identifier
 pub record Later (u : Letters) (c : ℕ) : Type 0 where
   pub no-slash : (c ≡ 0x2F → ⊥)
   pub no-space : isWhitespace c ≡ false
   pub no-name : u .start c ≡ false
 
--- nor a number, a pragma, an annotation or a hardware identifier
+-- nor is it a digit, #, @ or $
 pub record Single (u : Letters) (c : ℕ) : Type 0 where
   pub later : Later u c
   pub no-digit : isDigit c ≡ false
@@ -77,18 +71,17 @@ pub record Single (u : Letters) (c : ℕ) : Type 0 where
   pub no-at : (c ≡ 0x40 → ⊥)
   pub no-dollar : (c ≡ 0x24 → ⊥)
 
--- ---- a token at a place before the end: its kind, the place where its suffix starts (of a literal with none, its end; of all else, its own
--- start), and its end
-pub record Cuts (u : Letters) (profile : ℕ) (s : List ℕ) (at kind mark end : ℕ) : Type 0 where
+-- ---- a token at a place before the end: its kind, and the places where its suffix starts and where it ends
+pub record Cuts (u : Letters) (profile : ℕ) (s : List ℕ) (at kind suff end : ℕ) : Type 0 where
   pub what : kind ≡ token u profile (left s at) .kind
-  pub start : Place s at mark (token u profile (left s at) .mark)
+  pub start : Place s at suff (token u profile (left s at) .suff)
   pub place : Place s at end (token u profile (left s at) .rest)
   pub some : at < end
 
 -- what `advance_token` answers: at or past the end there is no token
-pub record Advanced (u : Letters) (profile : ℕ) (s : List ℕ) (at kind mark end : ℕ) : Type 0 where
-  pub before-end : (at < length s → Cuts u profile s at kind mark end)
-  pub at-end : (length s ≤ at → (kind ≡ eof) × (mark ≡ at) × (end ≡ at))
+pub record Advanced (u : Letters) (profile : ℕ) (s : List ℕ) (at kind suff end : ℕ) : Type 0 where
+  pub before-end : (at < length s → Cuts u profile s at kind suff end)
+  pub at-end : (length s ≤ at → (kind ≡ eof) × (suff ≡ at) × (end ≡ at))
 
 -- ---- a run of tokens: how many they are, where they end and what is left there, and the list with their words
 pub record Filled (u : Letters) (profile : ℕ) (s : List ℕ) (from : ℕ) (list : List ℕ) (at count : ℕ) (list′ : List ℕ) : Type 0 where
@@ -99,5 +92,5 @@ pub record Filled (u : Letters) (profile : ℕ) (s : List ℕ) (from : ℕ) (lis
 
 -- the answer for a text that passed the checks, and the list
 pub record Stored (u : Letters) (profile : ℕ) (s list : List ℕ) (number also : ℕ) (list′ : List ℕ) : Type 0 where
-  pub answer : Answered (checkRoom (length list / 3) (length (tokens u profile (chars s)))) number also
-  pub words : list′ ≡ cond (eqb number done) (over (flat (tokens u profile (chars s))) list) list
+  pub answer : Answered (checkRoom (length list / 3) (length (tokensBy u profile s))) number also
+  pub words : list′ ≡ cond (eqb number done) (over (flat (tokensBy u profile s)) list) list

@@ -29,13 +29,13 @@ use unicode::utf8::decode;
 #[repr(C)]
 pub struct Piece {
     pub kind: u32,
-    pub mark: usize,
+    pub suffix: usize,
     pub end: usize,
 }
 
 // The kind of a single mark, or 0.
 fn mark_of(c: u32) -> u32
-    ensures { λ r. ⌜ r ≡ markIn marks c 0 ⌝ }
+    ensures { λ r. ⌜ r ≡ markIn marks c ⌝ }
 {
     match c {
         0x3B => 10,
@@ -77,20 +77,20 @@ fn string(
     emoji: &[u32],
 ) -> Piece
     requires { ⌜ (Stands (now text) at c (next .at)) × (Later (lent (now start) (now more) (now emoji)) c) × (c ≡ 0x22) ⌝ }
-    ensures { λ r. ⌜ Cuts (lent (now (start .entry)) (now (more .entry)) (now (emoji .entry))) profile (now (text .entry)) at (r .kind) (r .mark) (r .end) ⌝ }
+    ensures { λ r. ⌜ Cuts (lent (now (start .entry)) (now (more .entry)) (now (emoji .entry))) profile (now (text .entry)) at (r .kind) (r .suffix) (r .end) ⌝ }
 {
     let q = double_quoted_string(text, next);
     if q.closed {
         let end = eat_literal_suffix(text, Cursor { at: q.at }, start, more, emoji);
         return Piece {
             kind: q.kind,
-            mark: q.at,
+            suffix: q.at,
             end: end.at,
         };
     }
     Piece {
         kind: q.kind,
-        mark: q.at,
+        suffix: q.at,
         end: q.at,
     }
 }
@@ -107,21 +107,21 @@ fn numeral(
     emoji: &[u32],
 ) -> Piece
     requires { ⌜ (Stands (now text) at c (next .at)) × (Later (lent (now start) (now more) (now emoji)) c) × (isDigit c ≡ true) ⌝ }
-    ensures { λ r. ⌜ Cuts (lent (now (start .entry)) (now (more .entry)) (now (emoji .entry))) profile (now (text .entry)) at (r .kind) (r .mark) (r .end) ⌝ }
+    ensures { λ r. ⌜ Cuts (lent (now (start .entry)) (now (more .entry)) (now (emoji .entry))) profile (now (text .entry)) at (r .kind) (r .suffix) (r .end) ⌝ }
 {
     let n = number(text, next, c);
     let behind = Cursor { at: n.at };
     if has_timing_or_imaginary_suffix(text, behind) {
         return Piece {
             kind: n.kind,
-            mark: n.at,
+            suffix: n.at,
             end: n.at,
         };
     }
     let end = eat_literal_suffix(text, behind, start, more, emoji);
     Piece {
         kind: n.kind,
-        mark: n.at,
+        suffix: n.at,
         end: end.at,
     }
 }
@@ -138,13 +138,13 @@ fn single(
     emoji: &[u32],
 ) -> Piece
     requires { ⌜ (Stands (now text) at c (next .at)) × (Single (lent (now start) (now more) (now emoji)) c) ⌝ }
-    ensures { λ r. ⌜ Cuts (lent (now (start .entry)) (now (more .entry)) (now (emoji .entry))) profile (now (text .entry)) at (r .kind) (r .mark) (r .end) ⌝ }
+    ensures { λ r. ⌜ Cuts (lent (now (start .entry)) (now (more .entry)) (now (emoji .entry))) profile (now (text .entry)) at (r .kind) (r .suffix) (r .end) ⌝ }
 {
     let k = mark_of(c);
     if k != 0 {
         return Piece {
             kind: k,
-            mark: at,
+            suffix: at,
             end: next.at,
         };
     }
@@ -155,18 +155,18 @@ fn single(
         let fake = next.eat_fake(text, start, more, emoji);
         return Piece {
             kind: kinds::INVALID_IDENT,
-            mark: at,
+            suffix: at,
             end: fake.at,
         };
     }
     Piece {
         kind: kinds::UNKNOWN,
-        mark: at,
+        suffix: at,
         end: next.at,
     }
 }
 
-// What begins with an at sign or a dollar sign, and what is left.
+// What begins with an at sign or a dollar sign, and what begins with none of those before.
 fn sigil(
     text: &[u8],
     at: usize,
@@ -178,14 +178,14 @@ fn sigil(
     emoji: &[u32],
 ) -> Piece
     requires { ⌜ (Stands (now text) at c (next .at)) × (Later (lent (now start) (now more) (now emoji)) c) × (isDigit c ≡ false) × (c ≡ 0x23 → ⊥) ⌝ }
-    ensures { λ r. ⌜ Cuts (lent (now (start .entry)) (now (more .entry)) (now (emoji .entry))) profile (now (text .entry)) at (r .kind) (r .mark) (r .end) ⌝ }
+    ensures { λ r. ⌜ Cuts (lent (now (start .entry)) (now (more .entry)) (now (emoji .entry))) profile (now (text .entry)) at (r .kind) (r .suffix) (r .end) ⌝ }
 {
     match c {
         0x40 => {
             let p = annotation(text, next, start, more, emoji);
             return Piece {
                 kind: p.kind,
-                mark: at,
+                suffix: at,
                 end: p.at,
             };
         }
@@ -193,7 +193,7 @@ fn sigil(
             let p = hardware_ident(text, next, start, more, emoji);
             return Piece {
                 kind: p.kind,
-                mark: at,
+                suffix: at,
                 end: p.at,
             };
         }
@@ -203,7 +203,7 @@ fn sigil(
     }
 }
 
-// What begins neither a comment, nor white space, nor an identifier.
+// What is no slash and no white space, and begins no identifier.
 fn other(
     text: &[u8],
     at: usize,
@@ -215,7 +215,7 @@ fn other(
     emoji: &[u32],
 ) -> Piece
     requires { ⌜ (Stands (now text) at c (next .at)) × (Later (lent (now start) (now more) (now emoji)) c) ⌝ }
-    ensures { λ r. ⌜ Cuts (lent (now (start .entry)) (now (more .entry)) (now (emoji .entry))) profile (now (text .entry)) at (r .kind) (r .mark) (r .end) ⌝ }
+    ensures { λ r. ⌜ Cuts (lent (now (start .entry)) (now (more .entry)) (now (emoji .entry))) profile (now (text .entry)) at (r .kind) (r .suffix) (r .end) ⌝ }
 {
     if is_digit(c) {
         return numeral(text, at, c, next, profile, start, more, emoji);
@@ -224,7 +224,7 @@ fn other(
         let p = pound(text, next);
         return Piece {
             kind: p.kind,
-            mark: at,
+            suffix: at,
             end: p.at,
         };
     }
@@ -243,14 +243,14 @@ fn named(
     emoji: &[u32],
 ) -> Piece
     requires { ⌜ (Stands (now text) at c (next .at)) × (c ≡ 0x2F → ⊥) × (isWhitespace c ≡ false) ⌝ }
-    ensures { λ r. ⌜ Cuts (lent (now (start .entry)) (now (more .entry)) (now (emoji .entry))) profile (now (text .entry)) at (r .kind) (r .mark) (r .end) ⌝ }
+    ensures { λ r. ⌜ Cuts (lent (now (start .entry)) (now (more .entry)) (now (emoji .entry))) profile (now (text .entry)) at (r .kind) (r .suffix) (r .end) ⌝ }
 {
     if is_id_start_in(start, c) {
         let own = Cursor { at };
         let p = ident_or_unknown_prefix(text, own, c, next, profile, start, more, emoji);
         return Piece {
             kind: p.kind,
-            mark: at,
+            suffix: at,
             end: p.at,
         };
     }
@@ -267,7 +267,7 @@ fn advance(
     emoji: &[u32],
 ) -> Piece
     requires { ⌜ at < length (now text) ⌝ }
-    ensures { λ r. ⌜ Cuts (lent (now (start .entry)) (now (more .entry)) (now (emoji .entry))) profile (now (text .entry)) at (r .kind) (r .mark) (r .end) ⌝ }
+    ensures { λ r. ⌜ Cuts (lent (now (start .entry)) (now (more .entry)) (now (emoji .entry))) profile (now (text .entry)) at (r .kind) (r .suffix) (r .end) ⌝ }
 {
     let d = decode(text, at);
     let next = Cursor { at: at + d.wide };
@@ -275,7 +275,7 @@ fn advance(
         let p = slash(text, next);
         return Piece {
             kind: p.kind,
-            mark: at,
+            suffix: at,
             end: p.at,
         };
     }
@@ -283,7 +283,7 @@ fn advance(
         let end = next.eat_whitespace(text);
         return Piece {
             kind: kinds::WHITESPACE,
-            mark: at,
+            suffix: at,
             end: end.at,
         };
     }
@@ -299,19 +299,19 @@ pub fn advance_token(
     more: &[u32],
     emoji: &[u32],
 ) -> Piece
-    ensures { λ r. ⌜ Advanced (lent (now (start .entry)) (now (more .entry)) (now (emoji .entry))) profile (now (text .entry)) at (r .kind) (r .mark) (r .end) ⌝ }
+    ensures { λ r. ⌜ Advanced (lent (now (start .entry)) (now (more .entry)) (now (emoji .entry))) profile (now (text .entry)) at (r .kind) (r .suffix) (r .end) ⌝ }
 {
     if text.len() <= at {
         return Piece {
             kind: kinds::EOF,
-            mark: at,
+            suffix: at,
             end: at,
         };
     }
     let p = advance(text, at, profile, start, more, emoji);
     Piece {
         kind: p.kind,
-        mark: p.mark,
+        suffix: p.suffix,
         end: p.end,
     }
 }

@@ -3,7 +3,7 @@ ghost use mathlib.Core.Path.{_≡_};
 ghost use Prim.Native.Nat.{_+_, _≤_, _<_};
 ghost use lib.ListN.{length, getD};
 ghost use Rattle.lexer.specs.Cut.{opens, closes, block, slash};
-ghost use Rattle.lexer.specs.Steps.{Parted, Flagged};
+ghost use Rattle.lexer.specs.Steps.{Parted};
 use crate::cursor::Cursor;
 use crate::cursor::byte;
 use crate::kinds;
@@ -43,7 +43,7 @@ fn is_close(text: &[u8], at: usize) -> bool
 // Behind the slash and the asterisk that open a block comment, byte by byte: only ASCII opens or closes. Block comments nest.
 fn block_comment(text: &[u8], from: Cursor) -> Block
     requires { ⌜ from .at ≤ length (now text) ⌝ }
-    ensures { λ r. ⌜ Flagged (block 1) (now (text .entry)) (from .at) (r .closed) (r .at) ⌝ }
+    ensures { λ r. ⌜ Parted (block 1) (now (text .entry)) (from .at) (r .closed) (r .at) ⌝ }
 {
     let mut at = from.at;
     let mut depth: usize = 1;

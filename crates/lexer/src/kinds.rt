@@ -1,4 +1,4 @@
-// The numbers of the kinds of tokens.
+// The numbers of the kinds of tokens but those of marks, numbers and quoted texts, which stand where these are cut.
 pub const EOF: u32 = 0;
 
 pub const LINE_COMMENT: u32 = 1;

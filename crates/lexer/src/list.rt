@@ -2,12 +2,10 @@
 ghost use mathlib.Core.Path.{_≡_};
 ghost use Prim.Native.Nat.{_+_, _≤_};
 ghost use lib.ListN.{length, set};
-ghost use Rattle.unicode.specs.Utf8.{chars};
 ghost use Rattle.text.specs.Answer.{longest};
-ghost use Rattle.lexer.specs.Cut.{tokens};
 ghost use Rattle.lexer.specs.Unicode.{lent, unicode};
 ghost use Rattle.lexer.specs.Steps.{Filled, Stored};
-ghost use Rattle.lexer.specs.Outcome.{Listed, CutRun, TokenAt};
+ghost use Rattle.lexer.specs.Outcome.{tokensBy, Listed, CutRun, TokenAt};
 pub use crate::advance::Piece;
 use crate::advance::advance_token;
 use text::Answer;
@@ -53,7 +51,7 @@ fn fill(
         }
         let t = advance_token(text, at, profile, start, more, emoji);
         let len = (t.end - at) as u32;
-        let suffix = (t.mark - at) as u32;
+        let suffix = (t.suffix - at) as u32;
         put(list, 3 * n, t.kind, len, suffix);
         n = n + 1;
         at = t.end;
@@ -93,13 +91,13 @@ pub fn token_at(
     more: &[u32],
     emoji: &[u32],
 ) -> Piece
-    ensures { λ r. ⌜ TokenAt (lent (now (start .entry)) (now (more .entry)) (now (emoji .entry))) profile (now (text .entry)) at (r .kind) (r .mark) (r .end) ⌝ }
+    ensures { λ r. ⌜ TokenAt (lent (now (start .entry)) (now (more .entry)) (now (emoji .entry))) profile (now (text .entry)) at (r .kind) (r .suffix) (r .end) ⌝ }
 {
     let mut words = [0u32; 3];
     let r = cut_run(text, at, profile, &mut words, start, more, emoji);
     Piece {
         kind: words[0],
-        mark: at + words[2] as usize,
+        suffix: at + words[2] as usize,
         end: r.at,
     }
 }
@@ -107,7 +105,7 @@ pub fn token_at(
 // How many tokens a text has, by runs of 64.
 fn count(text: &[u8], profile: u32, start: &[u32], more: &[u32], emoji: &[u32]) -> usize
     requires { ⌜ length (now text) ≤ longest ⌝ }
-    ensures { λ r. ⌜ r ≡ length (tokens (lent (now (start .entry)) (now (more .entry)) (now (emoji .entry))) profile (chars (now (text .entry)))) ⌝ }
+    ensures { λ r. ⌜ r ≡ length (tokensBy (lent (now (start .entry)) (now (more .entry)) (now (emoji .entry))) profile (now (text .entry))) ⌝ }
 {
     let mut list = [0u32; 192];
     let mut at: usize = 0;

@@ -8,7 +8,7 @@ ghost use lib.ListN.{length};
 ghost use Rattle.unicode.specs.Text.{Place, left};
 ghost use Rattle.lexer.specs.Cut.{peek, isE, exponent, exponentOf, point, fraction, based, number, isUnit, identifier};
 ghost use Rattle.lexer.specs.Unicode.{lent};
-ghost use Rattle.lexer.specs.Steps.{Parted, Flagged};
+ghost use Rattle.lexer.specs.Steps.{Parted};
 use crate::comments::Part;
 use crate::cursor::Cursor;
 use crate::cursor::Digits;
@@ -35,7 +35,7 @@ fn is_e(c: u32) -> bool
 
 fn eat_float_exponent(text: &[u8], from: Cursor) -> Digits
     requires { ⌜ from .at ≤ length (now text) ⌝ }
-    ensures { λ r. ⌜ Flagged exponent (now (text .entry)) (from .at) (r .any) (r .at) ⌝ }
+    ensures { λ r. ⌜ Parted exponent (now (text .entry)) (from .at) (r .any) (r .at) ⌝ }
 {
     if is_sign(from.first(text)) {
         return from.bump(text).eat_decimal_digits(text);
@@ -83,7 +83,7 @@ fn point(text: &[u8], from: Cursor, base: u32) -> Part
     }
 }
 
-// Behind the digits before a point.
+// Behind the digits of a base: a point, an exponent, or nothing.
 fn fraction(text: &[u8], from: Cursor, base: u32) -> Part
     requires { ⌜ (from .at ≤ length (now text)) × (base ≤ 3) ⌝ }
     ensures { λ r. ⌜ Parted (fraction base) (now (text .entry)) (from .at) (r .kind) (r .at) ⌝ }

@@ -5,3 +5,4 @@ pub mod Eat
 pub mod Ends
 pub mod Put
 pub mod Store
+pub mod Values

@@ -4,3 +4,4 @@ pub mod Eat
 pub mod Ends
 pub mod Over
 pub mod Put
+pub mod Values

@@ -9,7 +9,7 @@ use lib.Dec.{eqb}
 use lib.ListN.{length, take, drop, length-append, length-take, length-drop}
 use lib.Seq.{take-at, drop-at}
 use borrow.Author.Tests.{eqb-true, not-true}
-use Rattle.lists.specs.All.{all}
+use Rattle.lists.specs.All.{all, Each}
 use Rattle.lists.proofs.Bools.{by-test, both}
 use Rattle.unicode.specs.Ranges.{inTable}
 use Rattle.ucd.specs.Ucd.{xidStart, xidContinue}
@@ -20,7 +20,7 @@ use Rattle.letters.specs.Chars.{isWhitespace, whitespace}
 use Rattle.lexer.specs.Cut.{Letters, Tok, advance, piece, tokens, total}
 use Rattle.lexer.specs.Unicode.{unicode}
 use Rattle.lexer.specs.Outcome.{tokensOf}
-use Rattle.tokens.specs.Tiling.{Each, Formed}
+use Rattle.tokens.specs.Tiling.{Formed}
 use Rattle.tokens.proofs.Tiling.{tiles}
 use Rattle.locality.specs.Phases.{Usual}
 use Rattle.tokens.specs.Members.{isCounted, membersOf}

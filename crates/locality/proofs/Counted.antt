@@ -93,7 +93,7 @@ module _ (u : Letters) where
   unfolding advance isCounted
   others-count profile c t h k =
       let P : Token → Type 0 = λ a. isCounted (a .kind) ≡ true in
-      let m = markIn marks c 0 in
+      let m = markIn marks c in
       rw (h, k)
       (on-cond P (u .start c) (word-counts profile c t)
       (on-cond P (isDigit c) (number-counts c t)

@@ -6,7 +6,7 @@ use mathlib.Core.List.{List, [], _∷_, _++_, append-assoc, append-nil}
 use Rattle.lists.proofs.Cut.{cut-cons}
 use Rattle.unicode.specs.Utf8.{width}
 use Rattle.lexer.specs.Cut.{Letters, tokens}
-use Rattle.locality.specs.Machine.{Act, eats, halts, run, LooksAtTwo, cutBy}
+use Rattle.locality.specs.Machine.{Act, run, LooksAtTwo, cutBy}
 use Rattle.locality.specs.Phases as Phases
 use Rattle.locality.specs.Phases.{Usual}
 use Rattle.locality.specs.Feed.{State, idle, busy, held, feed, feeds, due, finish}

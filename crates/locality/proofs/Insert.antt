@@ -177,7 +177,7 @@ module _ (u : Letters) (usual : Usual u) (profile : ℕ) where
       by-test (eqb c 0x2F) (λ e. e)
       (λ e. by-test (isWhitespace c) (λ k. absurd (n (rw (e, k)))) (λ k. absurd (false≢true (sym h ∙ others-count u profile c t e k))))
 
-  advance-slash : (c : ℕ) (t : List ℕ) → eqb c 0x2F ≡ true → advance u profile c t ≡ record { kind = slash t .0; mark = c ∷ t; rest = slash t .1 }
+  advance-slash : (c : ℕ) (t : List ℕ) → eqb c 0x2F ≡ true → advance u profile c t ≡ record { kind = slash t .0; suff = c ∷ t; rest = slash t .1 }
   unfolding advance
   advance-slash c t h = rw h
 
@@ -195,7 +195,7 @@ module _ (u : Letters) (usual : Usual u) (profile : ℕ) where
       let a = advance-slash c (e ++ r) f in
       let g : slash (e ++ r) ≡ (blockComment, r) =
       ap₂ (λ (x : ℕ) (y : List ℕ). (x, y)) (ap (λ (y : Token). y .kind) (sym a) ∙ kind) (ap (λ (y : Token). y .rest) (sym a) ∙ ap (λ (y : Tok × List ℕ). y .1) h) in
-      let b : advance u profile c (e ++ s) ≡ record { kind = blockComment; mark = c ∷ (e ++ s); rest = s } = advance-slash c (e ++ s) f ∙ rw (slash-ahead e r s g) in
+      let b : advance u profile c (e ++ s) ≡ record { kind = blockComment; suff = c ∷ (e ++ s); rest = s } = advance-slash c (e ++ s) f ∙ rw (slash-ahead e r s g) in
       over-first u profile c (e ++ s) (rw b) (rw b o)
 
   -- ---- behind a line comment stands white space
@@ -211,7 +211,7 @@ module _ (u : Letters) (usual : Usual u) (profile : ℕ) where
   unfolding isCounted
   over-line c e r s k h w o =
       let l = kind-line c e r k h w in
-      let b : advance u profile c (e ++ s) ≡ record { kind = lineComment; mark = c ∷ (e ++ s); rest = skip notLf s } = advance-slash c (e ++ s) (l .0) ∙ rw (line-ahead e r s (l .1)) in
+      let b : advance u profile c (e ++ s) ≡ record { kind = lineComment; suff = c ∷ (e ++ s); rest = skip notLf s } = advance-slash c (e ++ s) (l .0) ∙ rw (line-ahead e r s (l .1)) in
       over-first u profile c (e ++ s) (rw b) (rw b o)
 
   -- the rest of it begins with an LF, or is empty

@@ -60,7 +60,7 @@ no-letter c n h = ne-eqb c (letter n) (λ e. omega (arith, letter-small n))
 
 -- a plain token, whose suffix would start at m
 abbrev tok : List ℕ → ℕ × List ℕ → Token
-tok m r = record { kind = r .0; mark = m; rest = r .1 }
+tok m r = record { kind = r .0; suff = m; rest = r .1 }
 
 -- ---- what is seen of a quoted text, to its end
 unfoldable sees : Seen → List ℕ → Seen
@@ -241,7 +241,7 @@ module _ (u : Letters) where
   identifier-nil = by-test (u .start 0) (λ h. rw (h, skip-nil (u .more))) (λ h. rw h)
 
   abbrev ending : ℕ → List ℕ → List ℕ → Token
-  ending k m r = record { kind = k; mark = m; rest = r }
+  ending k m r = record { kind = k; suff = m; rest = r }
 
   suffix-walk : (q : Phase) (k : ℕ) (m l : List ℕ) → act u q l ≡ suffixActs u k l → go q m l ≡ ending k l (identifier u l)
   unfolding act identifier
@@ -566,7 +566,7 @@ module _ (u : Letters) where
     unfolding first advance
     advance-walk c t =
         let l = c ∷ t in
-        let m = markIn marks c 0 in
+        let m = markIn marks c in
         choose _ _ (eqb c 0x2F) l t (slash-walk l t)
         (choose _ _ (isWhitespace c) l t (space-walk l t)
         (choose _ _ (u .start c) l t (word-walk c l t)

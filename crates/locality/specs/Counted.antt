@@ -12,24 +12,6 @@ use Rattle.lexer.specs.Cut.{Tok, total}
 use Rattle.lexer.specs.Outcome.{tokensOf}
 use Rattle.tokens.specs.Members.{isCounted}
 
--- the last token passes a test
-unfoldable pub lastIs : (ℕ → Bool) → List Tok → Bool
-lastIs p [] = false
-lastIs p (t ∷ []) = p (t .kind)
-lastIs p (t ∷ x ∷ ts) = lastIs p (x ∷ ts)
-
--- a line comment, which goes on with what is put behind it
-abbrev pub isLine : ℕ → Bool
-isLine k = eqb k lineComment
-
--- an unclosed comment or an unclosed quoted text, which does so too
-abbrev pub isOpen : ℕ → Bool
-isOpen k = eqb k unclosedComment || (eqb k (str false) || (eqb k (bitStr false false) || eqb k (bitStr false true)))
-
--- a line that counts, with what is put at its end
-abbrev pub isKept : ℕ → Bool
-isKept k = eqb k pragma || eqb k annotation
-
 -- no token counts
 abbrev pub noneCount : List Tok → Bool
 noneCount ts = all (λ t. not (isCounted (t .kind))) ts
@@ -48,6 +30,24 @@ pub record Run (profile : ℕ) (s : List ℕ) (from to : ℕ) : Type 0 where
 -- one newline in place of the bytes from one place to another
 unfoldable pub withNewline : List ℕ → ℕ → ℕ → List ℕ
 withNewline s from to = take from s ++ 0x0A ∷ drop to s
+
+-- the last token passes a test
+unfoldable pub lastIs : (ℕ → Bool) → List Tok → Bool
+lastIs p [] = false
+lastIs p (t ∷ []) = p (t .kind)
+lastIs p (t ∷ x ∷ ts) = lastIs p (x ∷ ts)
+
+-- a line comment, which goes on with what is put behind it
+abbrev pub isLine : ℕ → Bool
+isLine k = eqb k lineComment
+
+-- an unclosed comment or an unclosed quoted text, which does so too
+abbrev pub isOpen : ℕ → Bool
+isOpen k = eqb k unclosedComment || (eqb k (str false) || (eqb k (bitStr false false) || eqb k (bitStr false true)))
+
+-- a line that counts, with what is put at its end
+abbrev pub isKept : ℕ → Bool
+isKept k = eqb k pragma || eqb k annotation
 
 -- a token of s ends at a place
 pub record EndsAt (profile : ℕ) (s : List ℕ) (at : ℕ) (t : Tok) : Type 0 where

@@ -15,7 +15,7 @@ pub data Act (Q : Type 0) : Type 0 where
   halts : Bool → ℕ → Act Q
 
 module _ {Q : Type 0} (act : Q → List ℕ → Act Q) where
-  -- at the end of the text with n bytes eaten and the suffix at m; there is no character to eat, so that `eats` ends no token of any kind
+  -- at the end of the text with n bytes eaten and the suffix at m; there is no character to eat, so that `eats` ends a token of kind 0, which no token has
   abbrev pub ended : Act Q → ℕ → ℕ → Tok × List ℕ
   ended (eats b q) n m = (record { kind = 0; len = n; suff = m }, [])
   ended (halts b k) n m = (record { kind = k; len = n; suff = cond b n m }, [])

@@ -64,13 +64,13 @@ pub data Phase : Type 0 where
   spelling : Bool → ℕ → Phase
   -- behind @
   behindAt : Phase
-  -- behind $; in digits behind it, of which one was met
+  -- behind $; in the digits and underscores behind it, and whether a digit was met
   behindDollar : Phase
   wire : Bool → Phase
-  -- behind a first 0; in the digits of a base, of which one was met
+  -- behind a first 0; in the digits and underscores of a base, and whether a digit was met
   zeroFirst : Phase
   figures : ℕ → Bool → Phase
-  -- behind a point; in the digits behind it; behind an e; in the digits behind that, of which one was met
+  -- behind a point; in the digits behind it; behind an e; in the digits behind that, and whether one was met
   pointed decimals behindE : ℕ → Phase
   power : ℕ → Bool → Phase
   -- in a quoted text, of which this has been seen; true: behind a backslash, which takes the next character along
@@ -106,7 +106,7 @@ insideActs d (c ∷ t) =
     (cond (closes c (peek t)) (closingActs d)
     (eats false (inside d)))
 
--- between two characters
+-- between the two characters that open or close a comment
 abbrev pub betweenActs : Phase → List ℕ → Act Phase
 betweenActs q [] = halts false unclosedComment
 betweenActs q (c ∷ t) = eats false q
@@ -194,7 +194,7 @@ module _ (u : Letters) where
   -- ---- the state behind a first character, by the tests of `advance`
   unfoldable pub first : ℕ → ℕ → Phase
   first profile c =
-      let m = markIn marks c 0 in
+      let m = markIn marks c in
       cond (eqb c 0x2F) behindSlash
       (cond (isWhitespace c) space
       (cond (u .start c) (cond (eqb profile 1 && eqb c 0x70) (spelling true 1) name)

@@ -17,6 +17,9 @@ pub const TOO_SHORT_HEX_ESCAPE: u32 = 8;
 
 pub const INVALID_CHAR_IN_HEX_ESCAPE: u32 = 9;
 
+// Never given.
+pub const OUT_OF_RANGE_HEX_ESCAPE: u32 = 10;
+
 pub const NO_BRACE_IN_UNICODE_ESCAPE: u32 = 11;
 
 pub const INVALID_CHAR_IN_UNICODE_ESCAPE: u32 = 12;

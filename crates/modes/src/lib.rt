@@ -1,4 +1,4 @@
-// The modes of the bodies of literals, in the order of `Mode`, and the tests on modes and errors.
+// The modes of the bodies of literals, in the order of `Mode`; a character as a byte; and the tests on modes and errors.
 ghost use mathlib.Core.Path.{_≡_};
 ghost use mathlib.Core.Bool.{cond};
 ghost use Prim.Native.Nat.{_%_};
@@ -31,6 +31,13 @@ const UNKNOWN: Answer = Answer {
     number: text::UNKNOWN_SELECTOR,
     also: 0,
 };
+
+// The low eight bits.
+pub fn byte_from_char(c: u32) -> u8
+    ensures { λ r. ⌜ r ≡ c % 256 ⌝ }
+{
+    (c % 256) as u8
+}
 
 // Of a number that is no mode this test and the next three say no.
 pub fn is_single(mode: u32) -> bool
@@ -93,19 +100,6 @@ fn yes_or_no(yes: bool) -> Answer
     }
 }
 
-// Whether the error at a place of `EscapeError`, from 1, is no mere warning.
-pub fn is_fatal(error: u32) -> Answer
-    ensures { λ r. ⌜ Answered (fatal error) (r .number) (r .also) ⌝ }
-{
-    if error < errors::ZERO_CHARS {
-        return UNKNOWN;
-    }
-    if errors::MULTIPLE_SKIPPED_LINES_WARNING < error {
-        return UNKNOWN;
-    }
-    yes_or_no(error < errors::UNSKIPPED_WHITESPACE_WARNING)
-}
-
 // What a test on a mode said, if there is such a mode.
 fn if_known(mode: u32, yes: bool) -> Answer
     ensures { λ r. ⌜ Answered (checkMode mode andThen (done, cond yes 1 0)) (r .number) (r .also) ⌝ }
@@ -141,9 +135,15 @@ pub fn prefix_noraw(mode: u32) -> Answer
     if_known(mode, has_prefix(mode))
 }
 
-// The low eight bits.
-pub fn byte_from_char(c: u32) -> u8
-    ensures { λ r. ⌜ r ≡ c % 256 ⌝ }
+// Whether the error at a place of `EscapeError`, from 1, is no mere warning.
+pub fn is_fatal(error: u32) -> Answer
+    ensures { λ r. ⌜ Answered (fatal error) (r .number) (r .also) ⌝ }
 {
-    (c % 256) as u8
+    if error < errors::ZERO_CHARS {
+        return UNKNOWN;
+    }
+    if errors::MULTIPLE_SKIPPED_LINES_WARNING < error {
+        return UNKNOWN;
+    }
+    yes_or_no(error < errors::UNSKIPPED_WHITESPACE_WARNING)
 }

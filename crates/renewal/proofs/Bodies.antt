@@ -3,18 +3,20 @@
 use mathlib.Core.Path.{_≡_, refl, ap, sym, _∙_}
 use mathlib.Core.Bool.{Bool, true, false, cond, not, _&&_, _||_}
 use mathlib.Core.List.{List}
-use Prim.Native.Nat.{ℕ, zero, suc, _+_, _≤_, _<_}
+use Prim.Native.Nat.{ℕ, _+_, _≤_, _<_}
 use native.Mathlib.Decide.{decLt, ℕ-discrete}
 use native.Mathlib.Omega.{arith}
 use lib.Dec.{T, eqb, leb, eqb→eq}
 use lib.ListN.{length, getD}
 use borrow.Author.Tests.{le-leb, lt-leb, leb-true, ne-eqb}
+use Rattle.lists.specs.Values.{valuesFrom}
 use Rattle.lists.proofs.Bools.{by-test, both, or-true, on-cond}
+use Rattle.lists.proofs.Values.{values-at}
 use Rattle.unicode.proofs.Rows.{every, each}
 use Rattle.lexer.specs.Kinds.{isPlain, isLiteral}
 use Rattle.tokens.specs.Members.{isCounted}
 use Rattle.renewal.specs.Key.{isMark, isText, noBody, bodyLength}
-use Rattle.renewal.specs.Steps.{bodiesFrom, bodies}
+use Rattle.renewal.specs.Steps.{bodies}
 
 -- ---- of every number
 pub no-kind : (k : ℕ) → 62 ≤ k → bodyLength k ≡ noBody
@@ -96,21 +98,15 @@ plain-body k h c z =
     (let t = by-kind (λ k. isPlain k && isCounted k) (λ k. eqb (bodyLength k) 0 || eqb (bodyLength k) 4) tt k (plain-small k h) (rw (h, c)) in rw (ne-eqb (bodyLength k) 0 z) at t)
 
 -- ---- the constant
-from-at : (n k i : ℕ) → i < n → getD (bodiesFrom k n) i 0 ≡ bodyLength (k + i)
-unfolding bodiesFrom
-from-at zero k i h = absurd (omega arith)
-from-at (suc n) k zero h = let e : k + 0 ≡ k = omega arith in rw e
-from-at (suc n) k (suc i) h = let e : k + suc i ≡ suc k + i = omega arith in rw e (from-at n (suc k) i (omega arith))
-
 bodies-long : length bodies ≡ 62
-unfolding bodies bodiesFrom
+unfolding bodies valuesFrom
 bodies-long = refl
 
 pub body-read : {table : List ℕ} (k : ℕ) {r : ℕ} → table ≡ bodies → k < length table → r ≡ getD table k 0 → r ≡ bodyLength k
 unfolding bodies
 body-read k t h e =
     let l : k < 62 = omega (arith, ap length t, bodies-long) in
-    e ∙ ap (λ (l : List ℕ). getD l k 0) t ∙ from-at 62 0 k l ∙ (let z : 0 + k ≡ k = omega arith in rw z)
+    e ∙ ap (λ (l : List ℕ). getD l k 0) t ∙ values-at bodyLength 62 0 k l ∙ (let z : 0 + k ≡ k = omega arith in rw z)
 
 pub body-none : {table : List ℕ} (k : ℕ) {r : ℕ} → table ≡ bodies → length table ≤ k → r ≡ noBody → r ≡ bodyLength k
 body-none k t h e = e ∙ sym (no-kind k (omega (arith, ap length t, bodies-long)))

@@ -18,7 +18,7 @@ use Rattle.unicode.proofs.Ascii.{chars-ascii, wide-code}
 use Rattle.text.specs.Answer.{longest}
 use Rattle.lexer.specs.Cut.{Letters, Tok, Token, advance, piece, tokens, flat, total}
 use Rattle.lexer.specs.Unicode.{unicode}
-use Rattle.lexer.specs.Outcome.{tokensOf, run, CutRun}
+use Rattle.lexer.specs.Outcome.{tokensOf, run, CutRun, tokensBy}
 use Rattle.lexer.proofs.Shapes.{Shape, plain, literal, advance-shape, tokens-nil}
 use Rattle.lexer.proofs.Whole.{length-flat}
 use Rattle.tokens.proofs.First.{tokens-first, first-some}
@@ -27,7 +27,7 @@ use Rattle.tokens.specs.Members.{isCounted, memberOf}
 use Rattle.renewal.specs.Key.{noBody, bodyLength}
 use Rattle.renewal.specs.Rules.{Ruled, mark, stored, First, Cutter, ownBytes}
 use Rattle.renewal.specs.Rules as rules
-use Rattle.renewal.specs.Steps.{bodies, cutBy, toks, entries, RunReady, Walked}
+use Rattle.renewal.specs.Steps.{bodies, toks, entries, RunReady, Walked}
 use Rattle.renewal.proofs.Bodies.{plain-known, literal-known, plain-body, literal-body, empty-mark}
 use Rattle.renewal.proofs.Marks.{advance-mark}
 use Rattle.renewal.proofs.Runs.{taken, taken-some}
@@ -57,7 +57,7 @@ module _ (u : Letters) (profile : ℕ) where
   module _ (c : ℕ) (t s : List ℕ) (v : chars s ≡ c ∷ t) where
     -- the first token of the text s
     abbrev front : Tok
-    front = record { kind = advance u profile c t .kind; len = bytes (c ∷ t) - bytes (advance u profile c t .rest); suff = bytes (c ∷ t) - bytes (advance u profile c t .mark) }
+    front = record { kind = advance u profile c t .kind; len = bytes (c ∷ t) - bytes (advance u profile c t .rest); suff = bytes (c ∷ t) - bytes (advance u profile c t .suff) }
 
     front-within : front .len ≤ length s
     front-within = omega (arith, bytes-chars s, ap bytes v)
@@ -86,7 +86,7 @@ module _ (u : Letters) (profile : ℕ) where
         let b = literal-body (front .kind) k in
         stored (λ z. omega arith) (rules.literal b (f .literal k .0) (f .literal k .1) (omega (arith, front-within)) front-bytes)
 
-    cut-first : First (cutBy u profile) s
+    cut-first : First (tokensBy u profile) s
     unfolding piece
     cut-first =
         record {
@@ -98,10 +98,10 @@ module _ (u : Letters) (profile : ℕ) where
           ruled = front-ruled (advance-shape u profile c t);
         }
 
-  cut-none : cutBy u profile [] ≡ []
+  cut-none : tokensBy u profile [] ≡ []
   cut-none = ap (tokens u profile) chars-nil ∙ tokens-nil u profile
 
-  pub cutter : Cutter (cutBy u profile)
+  pub cutter : Cutter (tokensBy u profile)
   cutter =
       record {
         none = cut-none;
@@ -116,7 +116,7 @@ profile-cutter profile = cutter unicode profile
 -- ---- what `cut_run` gives are the tokens at the front
 module _ {u : Letters} {profile : ℕ} {s list list′ : List ℕ} {at at′ count : ℕ} (l : length list ≡ 192) (short : length s ≤ longest) (r : CutRun u profile s at list at′ count list′) where
   abbrev ts : List Tok
-  ts = take 64 (cutBy u profile (drop at s))
+  ts = take 64 (tokensBy u profile (drop at s))
 
   run-is : run u profile s at (length list / 3) ≡ ts
   unfolding run
@@ -140,12 +140,12 @@ module _ {u : Letters} {profile : ℕ} {s list list′ : List ℕ} {at at′ cou
   pub run-less : at < length s → at < at′
   run-less h = omega (arith, run-end, taken-some (cutter u profile) 63 (drop at s) (omega (arith, length-drop at s)))
 
-  module _ {write : Bool} {key₀ key : List ℕ} {n : ℕ} (w : Walking (cutBy u profile) s write key₀ at n key) where
+  module _ {write : Bool} {key₀ key : List ℕ} {n : ℕ} (w : Walking (tokensBy u profile) s write key₀ at n key) where
     pub run-ready : {table : List ℕ} → table ≡ bodies → RunReady table write n s at list′ count key
     run-ready b = walk-ready list′ count w (taken (cutter u profile) 64 (drop at s)) tokens-are b short run-words
 
-    pub run-on : {n′ : ℕ} {key′ : List ℕ} → PutIf write key n (entries (drop at s) (toks list′ 0 count)) key′ n′ → Walking (cutBy u profile) s write key₀ at′ n′ key′
+    pub run-on : {n′ : ℕ} {key′ : List ℕ} → PutIf write key n (entries (drop at s) (toks list′ 0 count)) key′ n′ → Walking (tokensBy u profile) s write key₀ at′ n′ key′
     run-on = walk-on list′ count w (taken (cutter u profile) 64 (drop at s)) tokens-are run-end
 
-pub run-done : (u : Letters) (profile : ℕ) {s key₀ key : List ℕ} {write : Bool} {at n : ℕ} → Walking (cutBy u profile) s write key₀ at n key → length s ≤ at → Walked (cutBy u profile) s write key₀ n key
+pub run-done : (u : Letters) (profile : ℕ) {s key₀ key : List ℕ} {write : Bool} {at n : ℕ} → Walking (tokensBy u profile) s write key₀ at n key → length s ≤ at → Walked (tokensBy u profile) s write key₀ n key
 run-done u profile w h = walk-end (cut-none u profile) w h

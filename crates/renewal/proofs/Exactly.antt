@@ -6,11 +6,11 @@ use mathlib.Core.Path.{_≡_, refl, ap}
 use mathlib.Core.Bool.{Bool, true, false}
 use mathlib.Core.List.{List, _∷_}
 use lib.ListN.{length, drop, length-drop}
+use Rattle.lists.specs.All.{Each}
 use Rattle.lists.proofs.Cut.{by-length}
 use Rattle.text.specs.Answer.{done, longest, checkCut}
 use Rattle.text.proofs.Checks.{cut-accepted}
 use Rattle.lexer.specs.Cut.{Tok}
-use Rattle.tokens.specs.Tiling.{Each}
 use Rattle.tokens.specs.Members.{isCounted, memberOf, counted, membersBy, membersOf}
 use Rattle.renewal.specs.Key.{keyOf, keyBy, keyOfText}
 use Rattle.renewal.specs.Rules.{Ruled, Cutter}

@@ -35,7 +35,7 @@ all-own : own marks ≡ true
 unfolding ownBytes byteIn marks
 all-own = refl
 
-mark-own : (ms : List (ℕ × ℕ)) (c : ℕ) → own ms ≡ true → eqb (markIn ms c 0) 0 ≡ false → (c < 0x80) × (ownBytes (markIn ms c 0) ≡ c ∷ [])
+mark-own : (ms : List (ℕ × ℕ)) (c : ℕ) → own ms ≡ true → eqb (markIn ms c) 0 ≡ false → (c < 0x80) × (ownBytes (markIn ms c) ≡ c ∷ [])
 unfolding markIn
 mark-own [] c h n = absurd (false≢true (sym n))
 mark-own (m ∷ ms) c h n =
@@ -57,7 +57,7 @@ Marked c t a = isMark (a .kind) ≡ true → Own c t a
 
 -- with no suffix start
 abbrev Part : ℕ → List ℕ → ℕ × List ℕ → Type 0
-Part c t r = Marked c t (record { kind = r .0; mark = c ∷ t; rest = r .1 })
+Part c t r = Marked c t (record { kind = r .0; suff = c ∷ t; rest = r .1 })
 
 never : {c : ℕ} {t : List ℕ} {a : Token} → isMark (a .kind) ≡ false → Marked c t a
 never h e = absurd (false≢true (sym h ∙ e))
@@ -101,7 +101,7 @@ module _ (u : Letters) where
   unfolding advance
   advance-mark profile c t =
       let P = Marked c t in
-      let m = markIn marks c 0 in
+      let m = markIn marks c in
       by-test (eqb c 0x2F)
       (λ e. rw e (slash-mark c t (eqb-true c 0x2F e)))
       (λ e. rw e

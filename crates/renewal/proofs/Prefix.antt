@@ -9,9 +9,9 @@ use mathlib.Core.List.{List, [], _∷_, _++_, append-assoc}
 use lib.ListN.{length, take, drop, length-take}
 use lib.Dec.{eqb}
 use borrow.Author.Tests.{eq-eqb, ne-eqb}
-use Rattle.tokens.specs.Tiling.{Each}
+use Rattle.lists.specs.All.{Each}
 use Rattle.tokens.specs.Members.{Member}
-use Rattle.renewal.specs.Key.{bodyLength, digits, word, bodyOf, texts, held, encode, keyOf}
+use Rattle.renewal.specs.Key.{bodyLength, lowBytes, word, bodyOf, texts, held, encode, keyOf}
 use Rattle.renewal.specs.Rules.{Allowed, empty, plain, literal, ownBytes, Ruled, mark, stored}
 use Rattle.renewal.proofs.Words.{value, value-word, same-front}
 use Rattle.renewal.proofs.Texts.{texts-front}
@@ -27,13 +27,13 @@ same-parts {x} {y} a b c d =
 
 -- ---- length and suffix start read back from a body
 body-len : {m : Member} → Allowed m → value (take 4 (bodyOf m)) ≡ m .len
-unfolding digits value
+unfolding lowBytes value
 body-len (empty b l s t) = rw b (sym l)
 body-len {m} (plain b l h s t) = rw b (value-word (m .len) h)
 body-len {m} (literal b l h n t) = rw b (value-word (m .len) n)
 
 body-suff : {m : Member} → Allowed m → value (drop 4 (bodyOf m)) ≡ m .suff
-unfolding digits value
+unfolding lowBytes value
 body-suff (empty b l s t) = rw b (sym s)
 body-suff {m} (plain b l h s t) = rw b (sym s)
 body-suff {m} (literal b l h n t) = rw b (value-word (m .suff) (omega arith))
@@ -44,7 +44,7 @@ text-long (plain b l m s t) = t
 text-long (literal b l m n t) = t
 
 body-long : (x y : Member) → x .kind ≡ y .kind → length (bodyOf x) ≡ length (bodyOf y)
-unfolding digits
+unfolding lowBytes
 body-long x y e =
     rw e (length-take (bodyLength (y .kind)) (word (x .len) ++ word (x .suff)) ∙ sym (length-take (bodyLength (y .kind)) (word (y .len) ++ word (y .suff))))
 

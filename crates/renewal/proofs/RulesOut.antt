@@ -21,9 +21,8 @@ use Rattle.lexer.specs.Cut.{notLf, isDigit, isHexDigit, block, slash, digits, e
 use Rattle.lexer.specs.Unicode.{unicode}
 use Rattle.lexer.specs.Outcome.{tokensOf}
 use Rattle.tokens.specs.Members.{isCounted, counted, membersBy, membersOf}
-use Rattle.renewal.specs.Key.{bodyLength, nextText, texts, held, encode, keyOf, keyOfText}
-use Rattle.renewal.specs.Key as key
-use Rattle.renewal.specs.Outcome.{outcome, keyed, Keyed}
+use Rattle.renewal.specs.Key.{bodyLength, lowBytes, nextText, texts, held, encode, keyOf, keyOfText}
+use Rattle.renewal.specs.Outcome.{answerOf, keyed, Keyed}
 
 -- ---- texts: x=0b1;//t and a semicolon, a comma, a semicolon behind a space, x
 abbrev sample : List ℕ
@@ -54,7 +53,7 @@ room = 7 ∷ 7 ∷ 7 ∷ []
 
 -- what the promise leaves of each under profile 0: number, also, and the bytes
 abbrev Only : List ℕ → List ℕ → ℕ → ℕ → List ℕ → Type 0
-Only text key number also after = (outcome text 0 (length key) ≡ (number, also)) × (keyed text 0 key ≡ after)
+Only text key number also after = (answerOf text 0 (length key) ≡ (number, also)) × (keyed text 0 key ≡ after)
 
 leaves :
     (Only semicolon room 0 1 (0x0A ∷ 7 ∷ 7 ∷ []))
@@ -62,7 +61,7 @@ leaves :
     × (Only spaced room 0 1 (0x0A ∷ 7 ∷ 7 ∷ []))
     × (Only x room 4 7 room)
     × (keyOfText 0 sample ≡ sampleKey)
-unfolding all pieces cut eat inTable xidStart xidContinue emoji table behind begins joined readBy first next chars width goodBytes validUpTo bytes skip checkText checkCut whitespace marks markIn unicode tokensOf notLf isDigit isHexDigit block slash digits exponent exponentOf point fraction based number isUnit quoted quoteKind agree pound name word annotated hardware identifier suffix advance piece tokens isCounted counted membersBy membersOf bodyLength nextText texts held encode keyOf keyOfText key.digits flatten outcome keyed
+unfolding all pieces cut eat inTable xidStart xidContinue emoji table behind begins joined readBy first next chars width goodBytes validUpTo bytes skip checkText checkCut whitespace marks markIn unicode tokensOf notLf isDigit isHexDigit block slash digits exponent exponentOf point fraction based number isUnit quoted quoteKind agree pound name word annotated hardware identifier suffix advance piece tokens isCounted counted membersBy membersOf bodyLength nextText texts held encode keyOf keyOfText lowBytes flatten answerOf keyed
 leaves = ((refl, refl), (refl, refl), (refl, refl), (refl, refl), refl)
 
 -- ---- THE SAMPLE: the 22 bytes of x=0b1;//t
@@ -98,4 +97,4 @@ rules-out-writing-nothing p =
 pub rules-out-refusal-writes : {s : List ℕ} {profile : ℕ} {key : List ℕ} {n a : ℕ} {k : List ℕ} → Keyed s profile key n a k → (n ≡ done → ⊥) → k ≡ key
 unfolding keyed
 rules-out-refusal-writes {s} {profile} {key} p h =
-    p .bytes ∙ rw (ne-eqb (outcome s profile (length key) .0) done (λ e. h (p .answer .number-is ∙ e)))
+    p .bytes ∙ rw (ne-eqb (answerOf s profile (length key) .0) done (λ e. h (p .answer .number-is ∙ e)))

@@ -16,12 +16,12 @@ use Rattle.lexer.specs.Cut.{Letters, Tok}
 use Rattle.unicode.specs.Ranges.{flat}
 use Rattle.ucd.specs.Ucd.{xidStart, xidContinue, emoji}
 use Rattle.lexer.specs.Unicode.{lent}
-use Rattle.lexer.specs.Outcome.{tokensOf}
+use Rattle.lexer.specs.Outcome.{tokensOf, tokensBy}
 use Rattle.lexer.proofs.Unicode.{lent-is}
 use Rattle.tokens.specs.Members.{membersOf}
 use Rattle.renewal.specs.Key.{keyBy, keyOfText}
-use Rattle.renewal.specs.Outcome.{outcome, keyed, Keyed}
-use Rattle.renewal.specs.Steps.{cutBy, Walked, Stored}
+use Rattle.renewal.specs.Outcome.{answerOf, keyed, Keyed}
+use Rattle.renewal.specs.Steps.{Walked, Stored}
 use Rattle.renewal.proofs.Cutter.{cutter}
 use Rattle.renewal.proofs.Runs.{key-few-by}
 use Rattle.renewal.proofs.Exactly.{exactly-when}
@@ -31,7 +31,7 @@ stored-bytes : (bytes key : List ℕ) {key′ : List ℕ} → key′ ≡ sets ke
 stored-bytes bytes key e l = e ∙ sets-eq bytes key 0 (omega (arith, l)) ∙ (rw zero-add)
 
 -- room for eleven bytes for each byte of the text is enough
-pub room-enough : (u : Letters) (profile : ℕ) (s key : List ℕ) → length s ≤ length key / 11 → length (keyBy (cutBy u profile) s) ≤ length key
+pub room-enough : (u : Letters) (profile : ℕ) (s key : List ℕ) → length s ≤ length key / 11 → length (keyBy (tokensBy u profile) s) ≤ length key
 room-enough u profile s key l = omega (arith, key-few-by (cutter u profile) s)
 
 module _ (cutter : List ℕ → List Tok) {s key key′ : List ℕ} {n number also : ℕ} where
@@ -65,37 +65,37 @@ stored-twice cutter {s} {key} {key′} {key″} {n} {m} v l w k a =
     stored cutter w′ (omega (arith, v .size, w .size, h)) k (omega (arith, v .size, w .size))
 
 -- over the constant tables
-pub lent-stored : (profile : ℕ) {number also : ℕ} {s key key′ : List ℕ} → Stored (cutBy (lent (flat xidStart) (flat xidContinue) (flat emoji)) profile) s key number also key′ → Stored (tokensOf profile) s key number also key′
+pub lent-stored : (profile : ℕ) {number also : ℕ} {s key key′ : List ℕ} → Stored (tokensBy (lent (flat xidStart) (flat xidContinue) (flat emoji)) profile) s key number also key′ → Stored (tokensOf profile) s key number also key′
 unfolding tokensOf
-lent-stored profile {number} {also} {s} {key} {key′} r = subst (λ (u : Letters). Stored (cutBy u profile) s key number also key′) lent-is r
+lent-stored profile {number} {also} {s} {key} {key′} r = subst (λ (u : Letters). Stored (tokensBy u profile) s key number also key′) lent-is r
 
 -- ---- the whole
 pub keyed-refused : {s key key′ : List ℕ} {profile number also : ℕ} → Answered (checkCut s profile) number also → (number ≡ done → ⊥) → key′ ≡ key → Keyed s profile key number also key′
-unfolding outcome keyed
+unfolding answerOf keyed
 keyed-refused {s} {key} {key′} {profile} a n e =
     let h : eqb (checkCut s profile .0) done ≡ false = ne-eqb _ _ (λ z. n (a .number-is ∙ z)) in
     record { answer = rw h a; bytes = rw (h, h) e }
 
 pub keyed-done : {s key key′ : List ℕ} {profile n₀ a₀ number also : ℕ} → Answered (checkCut s profile) n₀ a₀ → n₀ ≡ done → Stored (tokensOf profile) s key number also key′ → Keyed s profile key number also key′
-unfolding outcome keyed keyOfText membersOf keyBy
+unfolding answerOf keyed keyOfText membersOf keyBy
 keyed-done {s} {key} {key′} {profile} c z r =
     let h : eqb (checkCut s profile .0) done ≡ true = eq-eqb _ _ (sym (c .number-is) ∙ z) in
     record { answer = rw h (r .answer); bytes = rw (h, ← r .answer .number-is) (r .bytes) }
 
 -- ---- what a call that is done has written: the key of an accepted text
 done-accepted : {s : List ℕ} {profile : ℕ} {key : List ℕ} {a : ℕ} {key′ : List ℕ} → Keyed s profile key done a key′ → checkCut s profile .0 ≡ done
-unfolding outcome
+unfolding answerOf
 done-accepted {s} {profile} p =
     by-test (eqb (checkCut s profile .0) done) (λ e. eqb-true (checkCut s profile .0) done e)
     (λ e. let h = p .answer .number-is in sym (rw e at h))
 
 done-written : {s : List ℕ} {profile : ℕ} {key : List ℕ} {a : ℕ} {key′ : List ℕ} → Keyed s profile key done a key′ → take a key′ ≡ keyOfText profile s
-unfolding outcome keyed
+unfolding answerOf keyed
 done-written {s} {profile} {key} {a} p =
     let c = eq-eqb (checkCut s profile .0) done (done-accepted p) in
     let k = keyOfText profile s in
     let n : a ≡ length k = (rw c at (p .answer .also-is)) ∙ on-cond (λ (r : ℕ × ℕ). r .1 ≡ length k) (ltb (length key) (length k)) refl refl in
-    let d : eqb (outcome s profile (length key) .0) done ≡ true = eq-eqb _ _ (sym (p .answer .number-is)) in
+    let d : eqb (answerOf s profile (length key) .0) done ≡ true = eq-eqb _ _ (sym (p .answer .number-is)) in
     rw (n, p .bytes, d) (take-append-seam k (drop (length k) key))
 
 -- THE THEOREM on what two calls have written: the keys are equal if and only if the counted tokens are

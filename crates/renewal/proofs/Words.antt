@@ -7,15 +7,15 @@ use mathlib.Core.Path.{_≡_, refl, ap}
 use mathlib.Core.List.{List, [], _∷_, _++_}
 use lib.ListN.{length}
 use Rattle.text.specs.Answer.{longest}
-use Rattle.renewal.specs.Key.{digits, word}
+use Rattle.renewal.specs.Key.{lowBytes, word}
 
 -- the number that bytes stand for, the lowest first
 unfoldable pub value : List ℕ → ℕ
 value [] = 0
 value (b ∷ l) = b + 256 * value l
 
-pub digits-length : (k n : ℕ) → length (digits k n) ≡ k
-unfolding digits
+pub digits-length : (k n : ℕ) → length (lowBytes k n) ≡ k
+unfolding lowBytes
 digits-length zero n = refl
 digits-length (suc k) n = ap suc (digits-length k (n / 256))
 
@@ -24,11 +24,11 @@ unfoldable top : ℕ → ℕ
 top zero = 1
 top (suc k) = 256 * top k
 
-value-digits : (k n : ℕ) → n < top k → value (digits k n) ≡ n
-unfolding digits value top
+value-digits : (k n : ℕ) → n < top k → value (lowBytes k n) ≡ n
+unfolding lowBytes value top
 value-digits zero n h = omega arith
 value-digits (suc k) n h =
-    let ih : value (digits k (n / 256)) ≡ n / 256 = value-digits k (n / 256) (omega arith) in
+    let ih : value (lowBytes k (n / 256)) ≡ n / 256 = value-digits k (n / 256) (omega arith) in
     omega (arith, mod-add-div n 256)
 
 pub value-word : (n : ℕ) → n ≤ longest → value (word n) ≡ n

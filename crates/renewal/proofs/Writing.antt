@@ -8,13 +8,13 @@ use native.Mathlib.Numerals.{add-one, add-two, add-three}
 use mathlib.Core.Path.{_≡_, refl, ap, sym, _∙_}
 use mathlib.Core.Bool.{Bool, true, false}
 use mathlib.Core.List.{List, [], _∷_, _++_}
-use lib.ListN.{length, take, drop, set, getD, length-set, length-append, length-take, length-drop, drop-of-length-le, take-append-drop}
+use lib.ListN.{length, take, drop, set, getD, length-set, length-append, length-take, length-drop, drop-of-length-le}
 use lib.Seq.{sets, set-set, drop-cons, drop-drop, drop-at, take-take, length-take-le, take-all, take-add}
 use borrow.Author.Tests.{eq-eqb, ne-eqb}
 use Rattle.lists.proofs.Bools.{on-cond}
 use Rattle.lists.specs.Put.{Put, PutIf}
-use Rattle.lists.proofs.Put.{sets-append, put-one, put-then, put-both}
-use Rattle.renewal.specs.Key.{noBody, bodyLength, digits, word, bodyOf, texts, held, encode}
+use Rattle.lists.proofs.Put.{sets-append, put-then, put-both}
+use Rattle.renewal.specs.Key.{noBody, bodyLength, lowBytes, word, bodyOf, texts, held, encode}
 use Rattle.renewal.specs.Steps.{member, entry, sizeBy, BodyFits, Writable, Ready}
 use Rattle.renewal.proofs.Words.{digits-length}
 use Rattle.renewal.proofs.Texts.{texts-nil, texts-length, texts-at}
@@ -24,7 +24,7 @@ use Rattle.renewal.proofs.Bodies.{kind-small, body-eight, body-most}
 -- ---- four bytes
 pub put-word : {out out′ : List ℕ} {k r : ℕ} (n : ℕ) →
     out′ ≡ set (set (set (set out k (n % 256)) (k + 1) (n / 256 % 256)) (k + 2) (n / 256 / 256 % 256)) (k + 3) (n / 256 / 256 / 256 % 256) → r ≡ k + 4 → Put out k (word n) out′ r
-unfolding digits
+unfolding lowBytes
 put-word {out} {out′} {k} n u v =
     record { same = rw (u, add-one, add-two, add-three); next = v; long = ap length u ∙ simp length-set }
 
@@ -160,14 +160,14 @@ module _ {body k : ℕ} {key : List ℕ} (f : BodyFits body k key) where
 
   module _ (len : ℕ) {a : ℕ} {key₁ : List ℕ} (p : Put key k (word len) key₁ a) where
     pub body-four : (suff : ℕ) → body ≡ 4 → Put key k (take body (word len ++ word suff)) key₁ a
-    unfolding digits
+    unfolding lowBytes
     body-four suff e = rw e p
 
     pub body-second : (body ≡ 4 → ⊥) → a + 4 ≤ length key₁
     body-second n = omega (arith, f .room, f .eight n, p .next, p .long, digits-length 4 len)
 
     pub body-both : (suff : ℕ) {r : ℕ} {key₂ : List ℕ} → (body ≡ 4 → ⊥) → Put key₁ a (word suff) key₂ r → Put key k (take body (word len ++ word suff)) key₂ r
-    unfolding digits
+    unfolding lowBytes
     body-both suff n q = put-then p q (rw (f .eight n))
 
 -- ---- one record: its bytes, and how many they are
@@ -184,7 +184,7 @@ module _ (kind suff : ℕ) (text : List ℕ) where
   is-stored z = rw (held-stored (member kind suff text) z)
 
   body-long : (bodyLength kind ≡ noBody → ⊥) → length (bodyOf (member kind suff text)) ≡ bodyLength kind
-  unfolding digits
+  unfolding lowBytes
   body-long n = omega (arith, length-take (bodyLength kind) (word (length text) ++ word suff), body-most kind n)
 
   pub size-is : (bodyLength kind ≡ noBody → ⊥) → length is ≡ sizeBy (bodyLength kind) (length text)

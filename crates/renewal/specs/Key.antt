@@ -15,7 +15,7 @@ use Rattle.tokens.specs.Members.{Member, membersBy, membersOf}
 abbrev pub isMark : ℕ → Bool
 isMark k = leb 10 k && (leb k 36 && not (eqb k 20 || eqb k dollar))
 
--- the other kinds with no suffix start
+-- the other counted kinds with no suffix start
 abbrev pub isText : ℕ → Bool
 isText k = eqb k unclosedComment || ((leb ident k && leb k annotation) || (eqb k dollar || eqb k unknown))
 
@@ -28,12 +28,12 @@ unfoldable pub bodyLength : ℕ → ℕ
 bodyLength k = cond (isMark k) 0 (cond (isText k) 4 (cond (isLiteral k) 8 noBody))
 
 -- the k low bytes of n, the lowest first
-unfoldable pub digits : ℕ → ℕ → List ℕ
-digits zero n = []
-digits (suc k) n = n % 256 ∷ digits k (n / 256)
+unfoldable pub lowBytes : ℕ → ℕ → List ℕ
+lowBytes zero n = []
+lowBytes (suc k) n = n % 256 ∷ lowBytes k (n / 256)
 
 abbrev pub word : ℕ → List ℕ
-word n = digits 4 n
+word n = lowBytes 4 n
 
 -- the length, then the suffix start, as far as the body goes
 abbrev pub bodyOf : Member → List ℕ

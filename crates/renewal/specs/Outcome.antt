@@ -11,14 +11,14 @@ use Rattle.text.specs.Answer.{Answered, done, checkCut, checkRoom, _andThen_}
 use Rattle.renewal.specs.Key.{keyOfText}
 
 -- the number and what is also returned, for room of so many bytes
-unfoldable pub outcome : List ℕ → ℕ → ℕ → ℕ × ℕ
-outcome s profile room = checkCut s profile andThen checkRoom room (length (keyOfText profile s))
+unfoldable pub answerOf : List ℕ → ℕ → ℕ → ℕ × ℕ
+answerOf s profile room = checkCut s profile andThen checkRoom room (length (keyOfText profile s))
 
 -- the key, and behind it what stood there; a refusal changes nothing
 unfoldable pub keyed : List ℕ → ℕ → List ℕ → List ℕ
 keyed s profile key =
-    cond (eqb (outcome s profile (length key) .0) done) (over (keyOfText profile s) key) key
+    cond (eqb (answerOf s profile (length key) .0) done) (over (keyOfText profile s) key) key
 
 pub record Keyed (s : List ℕ) (profile : ℕ) (key : List ℕ) (number also : ℕ) (key′ : List ℕ) : Type 0 where
-  pub answer : Answered (outcome s profile (length key)) number also
+  pub answer : Answered (answerOf s profile (length key)) number also
   pub bytes : key′ ≡ keyed s profile key

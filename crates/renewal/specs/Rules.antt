@@ -27,13 +27,14 @@ byteIn (m ∷ ms) k = cond (eqb k (m .1)) (m .0 ∷ []) (byteIn ms k)
 unfoldable pub ownBytes : ℕ → List ℕ
 ownBytes = byteIn ((0x40, atSign) ∷ (0x2F, slashMark) ∷ marks)
 
--- what is true of every member of a text: what the key does not hold of it, its kind fixes
+-- what is true of every member of a text that is not too long: what the key does not hold of it, its kind fixes
 pub data Ruled (m : Member) : Type 0 where
   mark : bodyLength (m .kind) ≡ 0 → m .len ≡ length (ownBytes (m .kind)) → m .suff ≡ 0 → m .bytes ≡ ownBytes (m .kind) → Ruled m
   stored : (bodyLength (m .kind) ≡ 0 → ⊥) → Allowed m → Ruled m
 
 -- ---- a cutter on bytes gives the tokens of any text from its bytes. What the key asks of it: of a text that is not empty the first token takes
--- at least one byte, the tokens of what is left follow, its kind stands in keys exactly where it is counted, and then it obeys the rules
+-- at least one byte, the tokens of what is left follow, its kind stands in keys exactly where it is counted, and then, in a text that
+-- is not too long, it obeys the rules
 pub record First (cutter : List ℕ → List Tok) (s : List ℕ) : Type 0 where
   pub token : Tok
   pub some : 1 ≤ token .len

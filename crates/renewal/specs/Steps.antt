@@ -8,28 +8,25 @@ use lib.Dec.{eqb}
 use lib.ListN.{length, take, drop, getD}
 use lib.Seq.{sets}
 use Rattle.lists.specs.Over.{over}
-use Rattle.unicode.specs.Utf8.{chars}
+use Rattle.lists.specs.Values.{valuesFrom}
 use Rattle.text.specs.Answer.{Answered, done, longest, checkRoom}
-use Rattle.lexer.specs.Cut.{Tok, Letters, tokens, total}
+use Rattle.lexer.specs.Cut.{Tok, total}
 use Rattle.tokens.specs.Members.{Member}
 use Rattle.renewal.specs.Key.{noBody, bodyLength, held, encode, keyBy}
 
 -- the constant table: the body lengths of the kinds 0 to 61
-unfoldable pub bodiesFrom : ℕ → ℕ → List ℕ
-bodiesFrom k zero = []
-bodiesFrom k (suc n) = bodyLength k ∷ bodiesFrom (suc k) n
-
 unfoldable pub bodies : List ℕ
-bodies = bodiesFrom 0 62
+bodies = valuesFrom bodyLength 0 62
 
 -- the member of a kind, a suffix start and its bytes
 abbrev pub member : ℕ → ℕ → List ℕ → Member
 member kind suff text = record { kind = kind; len = length text; suff = suff; bytes = text }
 
--- what a member adds to the key, none where its kind stands in no key; and how many bytes that is, by the length of its body
+-- what a member adds to the key, none where its kind stands in no key
 unfoldable pub entry : Member → List ℕ
 entry m = cond (eqb (bodyLength (m .kind)) noBody) [] (encode (held m))
 
+-- how many bytes that is of a kind that stands in the key, by the lengths of its body and of its text
 abbrev pub sizeBy : ℕ → ℕ → ℕ
 sizeBy body n = cond (eqb body 0) 1 (1 + body + (n + (n + 15) / 16))
 
@@ -71,10 +68,6 @@ pub record RunReady (table : List ℕ) (write : Bool) (k : ℕ) (s : List ℕ) (
   pub within : from + total (toks list 0 count) ≤ length s
   pub low : k + length (entries (drop from s) (toks list 0 count)) ≤ 11 * longest
   pub room : (write ≡ true → k + length (entries (drop from s) (toks list 0 count)) ≤ length key)
-
--- the tokens of a text over letters that are lent
-abbrev pub cutBy : Letters → ℕ → List ℕ → List Tok
-cutBy u profile s = tokens u profile (chars s)
 
 -- a walk over the tokens, which sizes the key, and writes it where that is asked
 pub record Walked (cutter : List ℕ → List Tok) (s : List ℕ) (write : Bool) (key : List ℕ) (n : ℕ) (key′ : List ℕ) : Type 0 where

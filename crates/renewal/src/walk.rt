@@ -4,10 +4,10 @@ ghost use mathlib.Core.Bool.{true};
 ghost use Prim.Native.Nat.{_≤_};
 ghost use lib.ListN.{length};
 ghost use Rattle.text.specs.Answer.{longest};
-ghost use Rattle.lexer.specs.Outcome.{tokensOf};
+ghost use Rattle.lexer.specs.Outcome.{tokensOf, tokensBy};
 ghost use Rattle.lexer.specs.Unicode.{lent};
 ghost use Rattle.renewal.specs.Key.{keyBy};
-ghost use Rattle.renewal.specs.Steps.{bodies, cutBy, Walked, Stored};
+ghost use Rattle.renewal.specs.Steps.{bodies, Walked, Stored};
 use crate::records::put_members;
 use crate::table;
 use lexer::list::cut_run;
@@ -25,8 +25,8 @@ fn walk(
     more: &[u32],
     emoji: &[u32],
 ) -> usize
-    requires { ⌜ (length (now text) ≤ longest) × (now body ≡ bodies) × (write ≡ true → length (keyBy (cutBy (lent (now start) (now more) (now emoji)) profile) (now text)) ≤ length (now key)) ⌝ }
-    ensures { λ r. ⌜ Walked (cutBy (lent (now (start .entry)) (now (more .entry)) (now (emoji .entry))) profile) (now (text .entry)) write (now (key .entry)) r (now (key .exit)) ⌝ }
+    requires { ⌜ (length (now text) ≤ longest) × (now body ≡ bodies) × (write ≡ true → length (keyBy (tokensBy (lent (now start) (now more) (now emoji)) profile) (now text)) ≤ length (now key)) ⌝ }
+    ensures { λ r. ⌜ Walked (tokensBy (lent (now (start .entry)) (now (more .entry)) (now (emoji .entry))) profile) (now (text .entry)) write (now (key .entry)) r (now (key .exit)) ⌝ }
 {
     let mut list = [0u32; 192];
     let mut at: usize = 0;
@@ -51,7 +51,7 @@ fn store(
     emoji: &[u32],
 ) -> Answer
     requires { ⌜ (length (now text) ≤ longest) × (now body ≡ bodies) ⌝ }
-    ensures { λ r. ⌜ Stored (cutBy (lent (now (start .entry)) (now (more .entry)) (now (emoji .entry))) profile) (now (text .entry)) (now (key .entry)) (r .number) (r .also) (now (key .exit)) ⌝ }
+    ensures { λ r. ⌜ Stored (tokensBy (lent (now (start .entry)) (now (more .entry)) (now (emoji .entry))) profile) (now (text .entry)) (now (key .entry)) (r .number) (r .also) (now (key .exit)) ⌝ }
 {
     if text.len() <= key.len() / 11 {
         let n = walk(text, profile, true, key, body, start, more, emoji);

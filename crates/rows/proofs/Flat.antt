@@ -3,7 +3,6 @@
 use Prim.Native.Nat.{ℕ, zero, suc, _*_, _<_}
 use native.Mathlib.Omega.{arith}
 use mathlib.Core.Path.{_≡_, refl, sym, ap, _∙_}
-use mathlib.Core.Bool.{true, false}
 use mathlib.Core.List.{List, [], _∷_, _++_}
 use lib.Dec.{eqb}
 use lib.ListN.{length, drop, getD}
@@ -11,7 +10,7 @@ use lib.Seq.{drop-cons, drop-nil}
 use Rattle.lists.proofs.Bools.{by-test}
 use Rattle.text.specs.Answer.{Answered, done}
 use Rattle.lexer.specs.Cut.{Tok, flat}
-use Rattle.lexer.specs.Outcome.{tokensOf, outcome, listed, Listed}
+use Rattle.lexer.specs.Outcome.{tokensOf, answerOf, listed, Listed}
 use Rattle.rows.specs.Rows.{records, words, rowed, Rowed}
 use Rattle.rows.specs.declared.Token.{Token}
 
@@ -56,7 +55,7 @@ flat-rowed : (s : List ℕ) (profile : ℕ) (row : List Token) → words (rowed 
 unfolding rowed listed
 flat-rowed s profile row =
     let new = records (tokensOf profile s) in
-    by-test (eqb (outcome s profile (3 * length row) .0) done)
+    by-test (eqb (answerOf s profile (3 * length row) .0) done)
     (λ t.
     let m : length (flat (tokensOf profile s)) ≡ 3 * length new = ap length (sym (words-records (tokensOf profile s))) ∙ length-words new in
     rw (length-words row, t, m, words-append, words-drop, words-records))
@@ -66,5 +65,5 @@ flat-rowed s profile row =
 pub same-as-flat : {s : List ℕ} {profile : ℕ} {row row′ : List Token} {number also n a : ℕ} {list′ : List ℕ} → Rowed s profile row number also row′ → Listed s profile (words row) n a list′ →
     (number ≡ n) × (also ≡ a) × (words row′ ≡ list′)
 same-as-flat {s} {profile} {row} {n = n} {a} p q =
-    let w : Answered (outcome s profile (3 * length row)) n a = rw (length-words row) at (q .answer) in
+    let w : Answered (answerOf s profile (3 * length row)) n a = rw (length-words row) at (q .answer) in
     (p .answer .number-is ∙ sym (w .number-is), p .answer .also-is ∙ sym (w .also-is), ap words (p .row-is) ∙ flat-rowed s profile row ∙ sym (q .words))

@@ -17,7 +17,7 @@ use base.Logic.{SProp, ent, sep, ex, via, guardI}
 use base.Fml.{Lft, GName, Fml, fsep, fat, froom, fdead, flent}
 use prog.Wp.{Heap, Env}
 use ghost.Atoms.{Atoms, sem}
-use types.Kit.{Given, Item, ‵, _⊛_, some, later, _$_, _∵_, !, qed, by, move, keep, use1, pick, split, await, updating, now as at-once, rewrite, fsplit, fjoin, fpick, fpack, frame, show, done}
+use types.Kit.{Given, Item, ‵, _⊛_, some, _$_, _∵_, !, qed, by, move, keep, use1, pick, split, updating, now as at-once, rewrite, fsplit, fjoin, fpick, fpack, frame, show, done}
 use types.Run.{Opd, forget}
 use types.Tokens.{lent-back}
 use types.SemTy.{cells, Arr}

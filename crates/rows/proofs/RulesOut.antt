@@ -19,7 +19,7 @@ use Rattle.letters.specs.Chars.{whitespace}
 use Rattle.lexer.specs.Kinds.{marks, markIn}
 use Rattle.lexer.specs.Cut.{isDigit, advance, piece, tokens}
 use Rattle.lexer.specs.Unicode.{unicode}
-use Rattle.lexer.specs.Outcome.{tokensOf, outcome}
+use Rattle.lexer.specs.Outcome.{tokensOf, answerOf}
 use Rattle.rows.specs.Rows.{records, rowed, Rowed, Bridged}
 use Rattle.rows.specs.declared.Token.{Token}
 
@@ -31,7 +31,7 @@ seven = record { kind = 7; len = 7; suffix = 7 }
 
 -- a semicolon in a row of two records: the first is its token, and the second is as it was
 leaves : rowed semicolon 0 (seven ∷ seven ∷ []) ≡ record { kind = 10; len = 1; suffix = 0 } ∷ seven ∷ []
-unfolding all pieces cut eat inTable xidStart xidContinue emoji table behind begins joined readBy first next chars width goodBytes validUpTo bytes skip checkText checkCut whitespace marks markIn unicode tokensOf outcome isDigit advance piece tokens records rowed
+unfolding all pieces cut eat inTable xidStart xidContinue emoji table behind begins joined readBy first next chars width goodBytes validUpTo bytes skip checkText checkCut whitespace marks markIn unicode tokensOf answerOf isDigit advance piece tokens records rowed
 leaves = refl
 
 -- nothing written
@@ -45,7 +45,7 @@ rules-out-one-more p = ap (λ (x : List Token). getD x 1 seven) (p .row-is ∙ l
 -- a refusal that writes, at any text, profile and row: a refused call leaves the row as it was
 pub rules-out-refusal-writes : {s : List ℕ} {profile : ℕ} {row : List Token} {n a : ℕ} {l : List Token} → Rowed s profile row n a l → (n ≡ 0 → ⊥) → l ≡ row
 unfolding rowed
-rules-out-refusal-writes {s} {profile} {row} p h = p .row-is ∙ rw (ne-eqb (outcome s profile (3 * length row) .0) 0 (λ e. h (p .answer .number-is ∙ e)))
+rules-out-refusal-writes {s} {profile} {row} p h = p .row-is ∙ rw (ne-eqb (answerOf s profile (3 * length row) .0) 0 (λ e. h (p .answer .number-is ∙ e)))
 
 -- a record of a row by value that was not lent is written to, at any text, profile and row: behind the records that are lent each is as it was
 pub rules-out-others-written : {s : List ℕ} {profile records : ℕ} {row : List Token} {n a : ℕ} {l : List Token} → Bridged s profile records row n a l → (j : ℕ) (d : Token) → getD l (records + j) d ≡ getD row (records + j) d

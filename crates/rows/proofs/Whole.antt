@@ -3,27 +3,27 @@
 use Prim.Native.Nat.{ℕ, _-_, _*_, _/_, _≤_, _<_}
 use native.Mathlib.Omega.{arith}
 use mathlib.Core.Path.{_≡_, refl, sym, _∙_, subst}
-use mathlib.Core.Bool.{true, false, cond}
+use mathlib.Core.Bool.{true, false}
 use mathlib.Core.List.{List, [], _∷_}
 use lib.Dec.{ltb, eqb}
 use lib.ListN.{length, take}
-use borrow.Author.Tests.{ltb-true, ltb-false, lt-ltb, le-ltb, eqb-true, eqb-false, eq-eqb, ne-eqb}
+use borrow.Author.Tests.{ltb-false, lt-ltb, le-ltb, eqb-true, eqb-false, eq-eqb, ne-eqb}
 use Rattle.lists.proofs.Bools.{by-test}
 use Rattle.unicode.specs.Utf8.{chars, validUpTo}
 use Rattle.unicode.specs.Text.{left}
 use Rattle.unicode.specs.Ranges.{flat}
 use Rattle.ucd.specs.Ucd.{xidStart, xidContinue, emoji}
-use Rattle.text.specs.Answer.{Answered, done, roomTooSmall, longest, checkText, checkCut, knownProfile}
+use Rattle.text.specs.Answer.{Answered, done, roomTooSmall, longest, checkText, checkCut}
 use Rattle.text.proofs.Checks.{cut-accepted}
 use Rattle.lexer.specs.Cut.{Letters, Tok, tokens}
 use Rattle.lexer.specs.Unicode.{unicode, lent}
-use Rattle.lexer.specs.Outcome.{tokensOf, outcome, Listed, run, front, TokenAt}
+use Rattle.lexer.specs.Outcome.{tokensOf, answerOf, Listed, run, front, TokenAt}
 use Rattle.lexer.proofs.Unicode.{lent-is}
 use Rattle.lexer.proofs.Whole.{few-tokens}
 use Rattle.rows.specs.Rows.{recordOf, records, rowed, Rowed}
 use Rattle.rows.specs.Steps.{recordAt, Judged, Filled}
 use Rattle.rows.specs.declared.Token.{Token}
-use Rattle.rows.proofs.Filling.{length-records, none-left}
+use Rattle.rows.proofs.Filling.{length-records}
 
 front-one : (l : List Tok) → front (take 1 l) ≡ front l
 unfolding front
@@ -36,12 +36,12 @@ unfolding run
 first-run u profile s at short = rw (le-ltb longest (length s) short, front-one (tokens u profile (left s at)))
 
 -- what `token_at` says, as a record
-pub token-at : {u : Letters} {profile : ℕ} {s : List ℕ} {at kind mark end : ℕ} → length s ≤ longest → TokenAt u profile s at kind mark end →
-    _≡_ {A = Token} (record { kind = kind; len = end - at; suffix = mark - at }) (recordAt u profile s at)
-token-at {u} {profile} {s} {at} {kind} {mark} {end} short a =
+pub token-at : {u : Letters} {profile : ℕ} {s : List ℕ} {at kind suff end : ℕ} → length s ≤ longest → TokenAt u profile s at kind suff end →
+    _≡_ {A = Token} (record { kind = kind; len = end - at; suffix = suff - at }) (recordAt u profile s at)
+token-at {u} {profile} {s} {at} {kind} {suff} {end} short a =
     let t = front (run u profile s at 1) in
     let l : end - at ≡ t .len = omega (arith, a .place) in
-    let m : mark - at ≡ t .suff = omega (arith, a .start) in
+    let m : suff - at ≡ t .suff = omega (arith, a .start) in
     rw (a .what, l, m) (first-run u profile s at short)
 
 -- ---- the checks
@@ -62,7 +62,7 @@ need s profile = length (tokensOf profile s)
 
 -- refusal 4 is of the room alone, with the need
 told-need : {s list′ : List ℕ} {profile number also : ℕ} → Listed s profile (0 ∷ []) number also list′ → number ≡ roomTooSmall → (checkCut s profile .0 ≡ done) × (also ≡ (need s profile))
-unfolding outcome
+unfolding answerOf
 told-need {s} {profile = profile} {number} l n =
     by-test (eqb (checkCut s profile .0) done)
     (λ t. by-test (ltb 0 (need s profile))
@@ -74,7 +74,7 @@ told-need {s} {profile = profile} {number} l n =
 
 module _ {s : List ℕ} {profile room number also : ℕ} where
   pub judged-roomy : length s ≤ room → Answered (checkCut s profile) number also → Judged s profile room number also
-  unfolding outcome tokensOf
+  unfolding answerOf tokensOf
   judged-roomy h a =
       by-test (eqb (checkCut s profile .0) done)
       (λ t.
@@ -87,7 +87,7 @@ module _ {s : List ℕ} {profile room number also : ℕ} where
 
   -- what `tokenize` says with room for no record
   pub judged-told : {list′ : List ℕ} → Listed s profile (0 ∷ []) number also list′ → (number ≡ roomTooSmall → ⊥) → Judged s profile room number also
-  unfolding outcome
+  unfolding answerOf
   judged-told l n =
       by-test (eqb (checkCut s profile .0) done)
       (λ t. by-test (ltb 0 (need s profile))
@@ -101,7 +101,7 @@ module _ {s : List ℕ} {profile room number also : ℕ} where
       (λ t. record { number-is = rw t (rw t at (l .answer .number-is)); also-is = λ m. rw t (rw t at (l .answer .also-is)) })
 
   pub judged-short : {list′ : List ℕ} → Listed s profile (0 ∷ []) number also list′ → number ≡ roomTooSmall → room < also → Judged s profile room number also
-  unfolding outcome
+  unfolding answerOf
   judged-short l n h =
       let k = told-need l n in
       let t = eq-eqb _ _ (k .0) in
@@ -109,7 +109,7 @@ module _ {s : List ℕ} {profile room number also : ℕ} where
       record { number-is = rw (t, thirds room, b) n; also-is = λ m. rw (t, thirds room, b) (k .1) }
 
   pub judged-done : {list′ : List ℕ} {n : ℕ} → Listed s profile (0 ∷ []) n also list′ → n ≡ roomTooSmall → also ≤ room → number ≡ done → Judged s profile room number also
-  unfolding outcome
+  unfolding answerOf
   judged-done l n h z =
       let k = told-need l n in
       let t = eq-eqb _ _ (k .0) in
@@ -129,7 +129,7 @@ rowed-refused {row = row} j n =
 module _ {s : List ℕ} {profile number also : ℕ} (row : List Token) (j : Judged s profile (length row) number also) (z : number ≡ done) where
   -- what passes: the checks are done, and the row has room
   passes : (checkCut s profile .0 ≡ done) × (need s profile ≤ length row)
-  unfolding outcome
+  unfolding answerOf
   passes =
       by-test (eqb (checkCut s profile .0) done)
       (λ t. (
@@ -144,17 +144,17 @@ module _ {s : List ℕ} {profile number also : ℕ} (row : List Token) (j : Judg
   unfolding tokensOf
   judged-passed = (cut-accepted s profile (passes .0) .1 .short, passes .1)
 
-  outcome-is : outcome s profile (3 * length row) ≡ (done, need s profile)
-  unfolding outcome
-  outcome-is = rw (eq-eqb _ _ (passes .0), thirds (length row), le-ltb (length row) (need s profile) (passes .1))
+  answer-is : answerOf s profile (3 * length row) ≡ (done, need s profile)
+  unfolding answerOf
+  answer-is = rw (eq-eqb _ _ (passes .0), thirds (length row), le-ltb (length row) (need s profile) (passes .1))
 
   pub rowed-done : {n number′ also′ : ℕ} {row′ : List Token} → Filled unicode profile s row n row′ → Answered (done, n) number′ also′ → Rowed s profile row number′ also′ row′
   unfolding tokensOf rowed
   rowed-done {n} f a =
       let k : length (records (tokens unicode profile (chars s))) ≡ n = length-records (tokens unicode profile (chars s)) ∙ sym (f .count) in
       record {
-        answer = rw outcome-is (record { number-is = a .number-is; also-is = a .also-is ∙ f .count });
-        row-is = rw (outcome-is, k) (f .row-is);
+        answer = rw answer-is (record { number-is = a .number-is; also-is = a .also-is ∙ f .count });
+        row-is = rw (answer-is, k) (f .row-is);
       }
 
 -- ---- the tables as they are handed over

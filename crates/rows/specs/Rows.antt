@@ -9,7 +9,7 @@ use lib.ListN.{length, take, drop}
 use Rattle.lists.specs.Over.{over}
 use Rattle.text.specs.Answer.{Answered, done}
 use Rattle.lexer.specs.Cut.{Tok}
-use Rattle.lexer.specs.Outcome.{tokensOf, outcome}
+use Rattle.lexer.specs.Outcome.{tokensOf, answerOf}
 use Rattle.rows.specs.declared.Token.{Token}
 
 -- the record of a token: its kind, its length in bytes, its suffix start
@@ -23,11 +23,11 @@ records (t ∷ ts) = recordOf t ∷ records ts
 -- the records of the tokens, and behind them what stood there; a refusal changes nothing
 unfoldable pub rowed : List ℕ → ℕ → List Token → List Token
 rowed s profile row =
-    cond (eqb (outcome s profile (3 * length row) .0) done) (over (records (tokensOf profile s)) row) row
+    cond (eqb (answerOf s profile (3 * length row) .0) done) (over (records (tokensOf profile s)) row) row
 
 -- the answer is that of `tokenize`, for a list of three words for each record of the row
 pub record Rowed (s : List ℕ) (profile : ℕ) (row : List Token) (number also : ℕ) (row′ : List Token) : Type 0 where
-  pub answer : Answered (outcome s profile (3 * length row)) number also
+  pub answer : Answered (answerOf s profile (3 * length row)) number also
   pub row-is : row′ ≡ rowed s profile row
 
 -- ---- a row as flat words: record i is the words 3i to 3i + 2

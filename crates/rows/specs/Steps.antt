@@ -4,18 +4,17 @@ use Prim.Native.Nat.{ℕ, zero, suc, _+_, _*_}
 use mathlib.Core.Path.{_≡_}
 use mathlib.Core.List.{List, _++_}
 use lib.ListN.{length, drop, set}
-use Rattle.unicode.specs.Utf8.{chars}
 use Rattle.unicode.specs.Text.{left}
 use Rattle.text.specs.Answer.{done}
 use Rattle.lexer.specs.Cut.{Letters, tokens}
-use Rattle.lexer.specs.Outcome.{outcome, front}
+use Rattle.lexer.specs.Outcome.{answerOf, tokensBy, front}
 use Rattle.rows.specs.Rows.{recordOf, records}
 use Rattle.rows.specs.declared.Token.{Token}
 
 -- the checks: what is also returned is fixed where they refuse
 pub record Judged (s : List ℕ) (profile room number also : ℕ) : Type 0 where
-  pub number-is : number ≡ outcome s profile (3 * room) .0
-  pub also-is : ((number ≡ done → ⊥) → also ≡ outcome s profile (3 * room) .1)
+  pub number-is : number ≡ answerOf s profile (3 * room) .0
+  pub also-is : ((number ≡ done → ⊥) → also ≡ answerOf s profile (3 * room) .1)
 
 -- the record of the token at a place; where there is none, a record of noughts
 abbrev pub recordAt : Letters → ℕ → List ℕ → ℕ → Token
@@ -35,5 +34,5 @@ rowAfter u profile s row (suc i) = set (rowAfter u profile s row i) i (recordNo 
 
 -- all tokens are stored, and counted
 pub record Filled (u : Letters) (profile : ℕ) (s : List ℕ) (row : List Token) (n : ℕ) (row′ : List Token) : Type 0 where
-  pub count : n ≡ length (tokens u profile (chars s))
-  pub row-is : row′ ≡ records (tokens u profile (chars s)) ++ drop n row
+  pub count : n ≡ length (tokensBy u profile s)
+  pub row-is : row′ ≡ records (tokensBy u profile s) ++ drop n row

@@ -1,8 +1,6 @@
 // The second entry of the tokenizer: the tokens of a text in a lent row of records, one struct each.
 ghost use mathlib.Core.Path.{_≡_};
-ghost use mathlib.Core.Bool.{cond};
 ghost use Prim.Native.Nat.{_≤_, min};
-ghost use lib.Dec.{eqb};
 ghost use lib.ListN.{length};
 ghost use Rattle.unicode.specs.Utf8.{chars};
 ghost use Rattle.unicode.specs.Ranges.{flat};
@@ -64,7 +62,7 @@ fn token_from<'a, 't>(
     Token {
         kind: t.kind,
         len: (t.end - at) as u32,
-        suffix: (t.mark - at) as u32,
+        suffix: (t.suffix - at) as u32,
     }
 }
 

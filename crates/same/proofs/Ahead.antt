@@ -11,11 +11,10 @@ use borrow.Author.Tests.{le-ltb}
 use Rattle.text.specs.Answer.{longest}
 use Rattle.lexer.specs.Kinds.{eof}
 use Rattle.lexer.specs.Cut.{Letters, Tok}
-use Rattle.lexer.specs.Outcome.{run, front, TokenAt}
-use Rattle.lexer.proofs.Whole.{one-mark, one-end}
+use Rattle.lexer.specs.Outcome.{run, front, TokenAt, tokensBy}
+use Rattle.lexer.proofs.Whole.{one-start, one-end}
 use Rattle.tokens.specs.Members.{isCounted, memberOf, counted, membersBy}
 use Rattle.renewal.specs.Rules.{First, Cutter}
-use Rattle.renewal.specs.Steps.{cutBy}
 use Rattle.renewal.proofs.Cutter.{cutter}
 use Rattle.same.specs.Compare.{sights}
 use Rattle.same.specs.Steps.{memberAt, sightAt, membersFrom, sightsFrom, Ahead}
@@ -46,12 +45,12 @@ first-of : {cut : List ℕ → List Tok} → Cutter cut → (s : List ℕ) → 1
 first-of c [] h = absurd (omega arith)
 first-of c (a ∷ s) h = c .first a s
 
-module _ {u : Letters} {profile : ℕ} {s : List ℕ} {at kind mark end : ℕ} (short : length s ≤ longest) (h : at < length s) (a : TokenAt u profile s at kind mark end) where
+module _ {u : Letters} {profile : ℕ} {s : List ℕ} {at kind suff end : ℕ} (short : length s ≤ longest) (h : at < length s) (a : TokenAt u profile s at kind suff end) where
   abbrev tok : Tok
-  tok = record { kind = kind; len = end - at; suff = mark - at }
+  tok = record { kind = kind; len = end - at; suff = suff - at }
 
   abbrev cut : List ℕ → List Tok
-  cut = cutBy u profile
+  cut = tokensBy u profile
 
   here : First cut (drop at s)
   here = first-of (cutter u profile) (drop at s) (omega (arith, length-drop at s))
@@ -63,7 +62,7 @@ module _ {u : Letters} {profile : ℕ} {s : List ℕ} {at kind mark end : ℕ} (
   tok-is : tok ≡ here .token
   tok-is =
       let l : end - at ≡ here .token .len = omega (arith, a .place, ap (λ (t : Tok). t .len) here-is) in
-      let m : mark - at ≡ here .token .suff = omega (arith, a .start, ap (λ (t : Tok). t .suff) here-is) in
+      let m : suff - at ≡ here .token .suff = omega (arith, a .start, ap (λ (t : Tok). t .suff) here-is) in
       same-token (here .token) (a .what ∙ ap (λ (t : Tok). t .kind) here-is) l m
 
   reach : at + (end - at) ≡ end
@@ -81,7 +80,7 @@ module _ {u : Letters} {profile : ℕ} {s : List ℕ} {at kind mark end : ℕ} (
   within : end ≤ length s
   within = omega (arith, one-end a .1)
 
-  members-yes : isCounted kind ≡ true → membersFrom cut s at ≡ memberAt s kind at mark end ∷ membersFrom cut s end
+  members-yes : isCounted kind ≡ true → membersFrom cut s at ≡ memberAt s kind at suff end ∷ membersFrom cut s end
   unfolding membersBy
   members-yes e = rw view (counted-yes tok (cut (drop end s)) (drop at s) e ∙ rw far)
 
@@ -105,18 +104,18 @@ pub record Seeking (cut : List ℕ → List Tok) (s : List ℕ) (from at : ℕ) 
 pub seeking-none : (cut : List ℕ → List Tok) (s : List ℕ) (from : ℕ) → from ≤ length s → Seeking cut s from from
 seeking-none cut s from h = record { after = omega arith; within = h; members = refl; seen = refl }
 
-module _ {u : Letters} {profile : ℕ} {s : List ℕ} {from at kind mark end : ℕ} (w : Seeking (cutBy u profile) s from at) (short : length s ≤ longest) (h : at < length s) (a : TokenAt u profile s at kind mark end) where
-  pub seeking-found : {b : Bool} → b ≡ isCounted kind → b ≡ true → Ahead (cutBy u profile) s from kind at mark end
+module _ {u : Letters} {profile : ℕ} {s : List ℕ} {from at kind suff end : ℕ} (w : Seeking (tokensBy u profile) s from at) (short : length s ≤ longest) (h : at < length s) (a : TokenAt u profile s at kind suff end) where
+  pub seeking-found : {b : Bool} → b ≡ isCounted kind → b ≡ true → Ahead (tokensBy u profile) s from kind at suff end
   seeking-found b e =
       let c : isCounted kind ≡ true = sym b ∙ e in
       record {
-        place = record { before-mark = one-mark a .0; before-end = one-end a .0; within = within short h a };
+        place = record { before-suffix = one-start a .0; before-end = one-end a .0; within = within short h a };
         after = w .after;
         none = λ z. absurd (omega (arith, token-some short h a));
         some = λ z. (w .members ∙ members-yes short h a c, w .seen ∙ seen-yes short h a c);
       }
 
-  pub seeking-on : {b : Bool} → b ≡ isCounted kind → b ≡ false → Seeking (cutBy u profile) s from end
+  pub seeking-on : {b : Bool} → b ≡ isCounted kind → b ≡ false → Seeking (tokensBy u profile) s from end
   seeking-on b e =
       let c : isCounted kind ≡ false = sym b ∙ e in
       record {
@@ -126,12 +125,12 @@ module _ {u : Letters} {profile : ℕ} {s : List ℕ} {from at kind mark end : �
         seen = w .seen ∙ seen-no short h a c;
       }
 
-pub seeking-end : (u : Letters) (profile : ℕ) {s : List ℕ} {from at : ℕ} → Seeking (cutBy u profile) s from at → length s ≤ at → Ahead (cutBy u profile) s from eof at at at
+pub seeking-end : (u : Letters) (profile : ℕ) {s : List ℕ} {from at : ℕ} → Seeking (tokensBy u profile) s from at → length s ≤ at → Ahead (tokensBy u profile) s from eof at at at
 unfolding membersBy counted sights
 seeking-end u profile {s} {from} {at} w h =
-    let z : cutBy u profile (drop at s) ≡ [] = rw (drop-of-length-le s {i = at} h) (cutter u profile .none) in
+    let z : tokensBy u profile (drop at s) ≡ [] = rw (drop-of-length-le s {i = at} h) (cutter u profile .none) in
     record {
-      place = record { before-mark = omega arith; before-end = omega arith; within = w .within };
+      place = record { before-suffix = omega arith; before-end = omega arith; within = w .within };
       after = w .after;
       none = λ e. (refl, omega (arith, w .within), refl, w .members ∙ rw z, w .seen ∙ rw z);
       some = λ l. absurd (omega arith);

@@ -5,14 +5,14 @@ use native.Mathlib.Decide.{decLt}
 use native.Mathlib.Omega.{arith}
 use mathlib.Core.Path.{_≡_, refl, _∙_}
 use mathlib.Core.Bool.{true, false}
-use mathlib.Core.List.{List, [], _∷_, _++_, append-nil}
+use mathlib.Core.List.{List, [], _∷_, _++_, append-nil, foldl}
 use lib.Dec.{eqb, leb}
 use lib.ListN.{take}
 use borrow.Author.Tests.{ne-eqb, le-leb, lt-leb, lt-ltb, le-ltb}
 use Rattle.unicode.specs.Utf8.{chars, encode, encodeAll, WellFormed}
 use Rattle.unicode.proofs.Valid.{read-back, well-formed-encoded}
 use Rattle.unicode.proofs.Text.{chars-nil}
-use Rattle.same.specs.Places.{next, placeFrom, placeOf, nextChar, charsFrom}
+use Rattle.same.specs.Places.{next, placeOf, nextChar}
 
 -- ---- one byte
 begun : (p : ℕ × ℕ) (b : ℕ) → 0xBF < b → next p b ≡ (p .0, suc (p .1))
@@ -41,8 +41,8 @@ low-six : (n : ℕ) → 0x80 + n % 64 ≤ 0xBF
 low-six n = omega arith
 
 module _ (p : ℕ × ℕ) (c : ℕ) (t : List ℕ) where
-  one-character : placeFrom p (encode c ++ t) ≡ placeFrom (nextChar p c) t
-  unfolding placeFrom encode
+  one-character : foldl next p (encode c ++ t) ≡ foldl next (nextChar p c) t
+  unfolding encode
   one-character =
       elim (decLt c 0x80) [
         | yes h ↦ rw (lt-ltb c 0x80 h, ascii p c h)
@@ -78,13 +78,13 @@ module _ (p : ℕ × ℕ) (c : ℕ) (t : List ℕ) where
             ]
       ]
 
-all-characters : (p : ℕ × ℕ) (cs : List ℕ) → placeFrom p (encodeAll cs) ≡ charsFrom p cs
-unfolding placeFrom encodeAll charsFrom
+all-characters : (p : ℕ × ℕ) (cs : List ℕ) → foldl next p (encodeAll cs) ≡ foldl nextChar p cs
+unfolding encodeAll
 all-characters p [] = refl
 all-characters p (c ∷ t) = one-character p c (encodeAll t) ∙ all-characters (nextChar p c) t
 
 -- ---- A COLUMN IS A CHARACTER
-pub place-by-characters : (s : List ℕ) (at : ℕ) → WellFormed (take at s) → placeOf s at ≡ charsFrom (1, 1) (chars (take at s))
+pub place-by-characters : (s : List ℕ) (at : ℕ) → WellFormed (take at s) → placeOf s at ≡ foldl nextChar (1, 1) (chars (take at s))
 unfolding placeOf
 place-by-characters s at w =
     let e = well-formed-encoded (take at s) w in

@@ -19,7 +19,7 @@ use Rattle.same.specs.Steps.{memberAt, sightAt, membersFrom, sightsFrom,
 use Rattle.same.proofs.Alike.{alike-equal, alike-self, agree-more, agree-stop}
 
 -- ---- one text: the first counted token from a place on
-module _ {cut : List ℕ → List Tok} {s : List ℕ} {at kind start mark end : ℕ} (p : Ahead cut s at kind start mark end) where
+module _ {cut : List ℕ → List Tok} {s : List ℕ} {at kind start suff end : ℕ} (p : Ahead cut s at kind start suff end) where
   pub ends : (start < end → ⊥) → start ≡ end
   ends n = omega (arith, p .place .before-end)
 
@@ -37,11 +37,11 @@ module _ {cut : List ℕ → List Tok} {s : List ℕ} {at kind start mark end : 
             rw (x .4, d, x .0, x .1)
       ])
 
-  none-member : start ≡ end → memberAt s kind start mark end ≡ record { kind = eof; len = 0; suff = 0; bytes = [] }
+  none-member : start ≡ end → memberAt s kind start suff end ≡ record { kind = eof; len = 0; suff = 0; bytes = [] }
   none-member h =
       let x = p .none h in
       let d : end - start ≡ 0 = omega arith in
-      let m : mark - start ≡ 0 = omega (arith, x .2) in
+      let m : suff - start ≡ 0 = omega (arith, x .2) in
       rw (d, m, x .0)
 
   -- where nothing more is counted there is none
@@ -63,13 +63,13 @@ pub parting-none : (cut : List ℕ → List Tok) (s s′ : List ℕ) → Parting
 parting-none cut s s′ =
     record { few = omega arith; within = omega arith; within′ = omega arith; agreed = omega arith; count = omega arith; count′ = omega arith; seen = refl; seen′ = refl }
 
-module _ {cut : List ℕ → List Tok} {s s′ : List ℕ} {a b n kind start mark end kind′ start′ mark′ end′ : ℕ}
-    (w : Parting cut s s′ a b n) (p : Ahead cut s a kind start mark end) (q : Ahead cut s′ b kind′ start′ mark′ end′) where
+module _ {cut : List ℕ → List Tok} {s s′ : List ℕ} {a b n kind start suff end kind′ start′ suff′ end′ : ℕ}
+    (w : Parting cut s s′ a b n) (p : Ahead cut s a kind start suff end) (q : Ahead cut s′ b kind′ start′ suff′ end′) where
   abbrev m : Member
-  m = memberAt s kind start mark end
+  m = memberAt s kind start suff end
 
   abbrev m′ : Member
-  m′ = memberAt s′ kind′ start′ mark′ end′
+  m′ = memberAt s′ kind′ start′ suff′ end′
 
   -- what is shown, where no more agree
   parted-is : (verdict : ℕ) → agree (membersFrom cut s a) (membersFrom cut s′ b) ≡ 0 → cond (eqb n (length (membersBy cut s)) && eqb n (length (membersBy cut s′))) same different ≡ verdict →

@@ -3,7 +3,7 @@
 use Prim.Native.Nat.{ℕ}
 use mathlib.Core.Path.{_≡_, refl}
 use mathlib.Core.List.{List, [], _∷_}
-use Rattle.lists.specs.All.{all}
+use Rattle.lists.specs.All.{all, Each}
 use Rattle.lists.specs.Cut.{pieces, cut}
 use Rattle.lists.specs.Eat.{eat}
 use Rattle.unicode.specs.Ranges.{inTable}
@@ -17,7 +17,6 @@ use Rattle.lexer.specs.Cut.{notLf, isDigit, isHexDigit, block, slash, digits, e
 use Rattle.lexer.specs.Unicode.{unicode}
 use Rattle.lexer.specs.Outcome.{tokensOf}
 use Rattle.tokens.specs.Members.{isCounted, counted, membersBy, membersOf}
-use Rattle.tokens.specs.Tiling.{Each}
 use Rattle.same.specs.Compare.{Sight, Comparison, sameBytes, alike, sights, same, different, oldRefused, newRefused, partedBy, refusedBy, compared}
 use Rattle.same.specs.Compare as compare
 use Rattle.same.specs.Steps.{showing}

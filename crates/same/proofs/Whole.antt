@@ -14,22 +14,21 @@ use Rattle.ucd.specs.Ucd.{xidStart, xidContinue, emoji}
 use Rattle.text.specs.Answer.{Answered, done, checkCut}
 use Rattle.lexer.specs.Cut.{Letters}
 use Rattle.lexer.specs.Unicode.{lent}
-use Rattle.lexer.specs.Outcome.{tokensOf}
+use Rattle.lexer.specs.Outcome.{tokensOf, tokensBy}
 use Rattle.lexer.proofs.Unicode.{lent-is}
 use Rattle.tokens.specs.Members.{Member, membersOf}
 use Rattle.renewal.specs.Key.{keyOfText}
-use Rattle.renewal.specs.Steps.{cutBy}
 use Rattle.renewal.proofs.Exactly.{exactly-when}
 use Rattle.same.specs.Compare.{Sight, Comparison, Shown, Compared, agree, same, different, oldRefused, newRefused, partedBy, refusedBy, compared}
 use Rattle.same.proofs.Alike.{agree-all, agree-self}
 
 -- ---- over the constant tables
 pub lent-parted : (profile : ℕ) (s s′ : List ℕ) {verdict number also agreed k o l k′ o′ l′ : ℕ} →
-    Compared (partedBy (cutBy (lent (flat xidStart) (flat xidContinue) (flat emoji)) profile) s s′) verdict number also agreed k o l k′ o′ l′ →
+    Compared (partedBy (tokensBy (lent (flat xidStart) (flat xidContinue) (flat emoji)) profile) s s′) verdict number also agreed k o l k′ o′ l′ →
     Compared (partedBy (tokensOf profile) s s′) verdict number also agreed k o l k′ o′ l′
 unfolding tokensOf
 lent-parted profile s s′ {verdict} {number} {also} {agreed} {k} {o} {l} {k′} {o′} {l′} c =
-    subst (λ (u : Letters). Compared (partedBy (cutBy u profile) s s′) verdict number also agreed k o l k′ o′ l′) lent-is c
+    subst (λ (u : Letters). Compared (partedBy (tokensBy u profile) s s′) verdict number also agreed k o l k′ o′ l′) lent-is c
 
 -- ---- the three ways
 accepted-test : (profile : ℕ) (s : List ℕ) {n a : ℕ} → Answered (checkCut s profile) n a → n ≡ done → eqb (checkCut s profile .0) done ≡ true

@@ -11,13 +11,13 @@ use Rattle.text.specs.Answer.{done}
 use Rattle.same.specs.Compare.{Sight, Comparison, sights}
 
 -- a token that was found in a text, by its places
-pub record Within (s : List ℕ) (start mark end : ℕ) : Type 0 where
-  pub before-mark : start ≤ mark
+pub record Within (s : List ℕ) (start suff end : ℕ) : Type 0 where
+  pub before-suffix : start ≤ suff
   pub before-end : start ≤ end
   pub within : end ≤ length s
 
 abbrev pub memberAt : List ℕ → ℕ → ℕ → ℕ → ℕ → Member
-memberAt s kind start mark end = record { kind = kind; len = end - start; suff = mark - start; bytes = take (end - start) (drop start s) }
+memberAt s kind start suff end = record { kind = kind; len = end - start; suff = suff - start; bytes = take (end - start) (drop start s) }
 
 abbrev pub sightAt : ℕ → ℕ → ℕ → Sight
 sightAt kind start end = record { kind = kind; start = start; len = end - start }
@@ -30,11 +30,11 @@ abbrev pub sightsFrom : (List ℕ → List Tok) → List ℕ → ℕ → List Si
 sightsFrom cutter s at = sights at (cutter (drop at s))
 
 -- the first counted token from a place on; where there is none, it is empty and stands at the end
-pub record Ahead (cutter : List ℕ → List Tok) (s : List ℕ) (at kind start mark end : ℕ) : Type 0 where
-  pub place : Within s start mark end
+pub record Ahead (cutter : List ℕ → List Tok) (s : List ℕ) (at kind start suff end : ℕ) : Type 0 where
+  pub place : Within s start suff end
   pub after : at ≤ start
-  pub none : (start ≡ end → (kind ≡ eof) × (start ≡ length s) × (mark ≡ start) × (membersFrom cutter s at ≡ []) × (sightsFrom cutter s at ≡ []))
-  pub some : (start < end → (membersFrom cutter s at ≡ memberAt s kind start mark end ∷ membersFrom cutter s end) × (sightsFrom cutter s at ≡ sightAt kind start end ∷ sightsFrom cutter s end))
+  pub none : (start ≡ end → (kind ≡ eof) × (start ≡ length s) × (suff ≡ start) × (membersFrom cutter s at ≡ []) × (sightsFrom cutter s at ≡ []))
+  pub some : (start < end → (membersFrom cutter s at ≡ memberAt s kind start suff end ∷ membersFrom cutter s end) × (sightsFrom cutter s at ≡ sightAt kind start end ∷ sightsFrom cutter s end))
 
 -- the comparison that shows two such tokens
 abbrev pub showing : ℕ → ℕ → Sight → Sight → Comparison

@@ -37,7 +37,7 @@ pub struct Comparison {
     pub new: Sight,
 }
 
-// Both from 1: lines end at LF, and a column is a code point.
+// Both from 1: lines end at LF, and a column is a code point where the text is UTF-8.
 #[repr(C)]
 pub struct Place {
     pub line: usize,

@@ -1,12 +1,13 @@
 // Lines and columns.
 ghost use mathlib.Core.Path.{_≡_};
 ghost use Prim.Native.Nat.{_≤_};
-ghost use Rattle.same.specs.Places.{goesOn, next, placeOf, Placed};
+ghost use Rattle.unicode.specs.Utf8.{follows};
+ghost use Rattle.same.specs.Places.{next, placeOf, Placed};
 use crate::Place;
 
 // Whether a byte goes on with a character.
 fn goes_on(b: u8) -> bool
-    ensures { λ r. ⌜ r ≡ goesOn b ⌝ }
+    ensures { λ r. ⌜ r ≡ follows b ⌝ }
 {
     if b < 0x80 {
         return false;

@@ -4,9 +4,8 @@ ghost use Prim.Native.Nat.{_≤_};
 ghost use lib.ListN.{length};
 ghost use Rattle.text.specs.Answer.{longest};
 ghost use Rattle.lexer.specs.Unicode.{lent};
-ghost use Rattle.lexer.specs.Outcome.{tokensOf};
+ghost use Rattle.lexer.specs.Outcome.{tokensOf, tokensBy};
 ghost use Rattle.tokens.specs.Members.{isCounted};
-ghost use Rattle.renewal.specs.Steps.{cutBy};
 ghost use Rattle.same.specs.Compare.{sameBytes, alike, partedBy, Compared};
 ghost use Rattle.same.specs.Steps.{Within, memberAt, sightAt, Ahead, showing};
 use crate::Comparison;
@@ -21,7 +20,7 @@ use ucd::tables;
 struct Found {
     kind: u32,
     start: usize,
-    mark: usize,
+    suffix: usize,
     end: usize,
 }
 
@@ -63,7 +62,7 @@ fn next_counted(
     emoji: &[u32],
 ) -> Found
     requires { ⌜ (from ≤ length (now text)) × (length (now text) ≤ longest) ⌝ }
-    ensures { λ r. ⌜ Ahead (cutBy (lent (now (start .entry)) (now (more .entry)) (now (emoji .entry))) profile) (now (text .entry)) from (r .kind) (r .start) (r .mark) (r .end) ⌝ }
+    ensures { λ r. ⌜ Ahead (tokensBy (lent (now (start .entry)) (now (more .entry)) (now (emoji .entry))) profile) (now (text .entry)) from (r .kind) (r .start) (r .suffix) (r .end) ⌝ }
 {
     let mut at = from;
     while at < text.len() {
@@ -72,7 +71,7 @@ fn next_counted(
             return Found {
                 kind: t.kind,
                 start: at,
-                mark: t.mark,
+                suffix: t.suffix,
                 end: t.end,
             };
         }
@@ -81,19 +80,19 @@ fn next_counted(
     Found {
         kind: 0,
         start: at,
-        mark: at,
+        suffix: at,
         end: at,
     }
 }
 
 fn are_alike(old: &[u8], new: &[u8], p: Found, q: Found) -> bool
-    requires { ⌜ (Within (now old) (p .start) (p .mark) (p .end)) × (Within (now new) (q .start) (q .mark) (q .end)) ⌝ }
-    ensures { λ r. ⌜ r ≡ alike (memberAt (now (old .entry)) (p .kind) (p .start) (p .mark) (p .end)) (memberAt (now (new .entry)) (q .kind) (q .start) (q .mark) (q .end)) ⌝ }
+    requires { ⌜ (Within (now old) (p .start) (p .suffix) (p .end)) × (Within (now new) (q .start) (q .suffix) (q .end)) ⌝ }
+    ensures { λ r. ⌜ r ≡ alike (memberAt (now (old .entry)) (p .kind) (p .start) (p .suffix) (p .end)) (memberAt (now (new .entry)) (q .kind) (q .start) (q .suffix) (q .end)) ⌝ }
 {
     if p.kind != q.kind {
         return false;
     }
-    if p.mark - p.start != q.mark - q.start {
+    if p.suffix - p.start != q.suffix - q.start {
         return false;
     }
     let a = p.start;
@@ -137,7 +136,7 @@ fn part(
     emoji: &[u32],
 ) -> Comparison
     requires { ⌜ (length (now old) ≤ longest) × (length (now new) ≤ longest) ⌝ }
-    ensures { λ r. ⌜ Compared (partedBy (cutBy (lent (now (start .entry)) (now (more .entry)) (now (emoji .entry))) profile) (now (old .entry)) (now (new .entry))) (r .verdict) (r .refusal .number) (r .refusal .also) (r .agreed) (r .old .kind) (r .old .start) (r .old .len) (r .new .kind) (r .new .start) (r .new .len) ⌝ }
+    ensures { λ r. ⌜ Compared (partedBy (tokensBy (lent (now (start .entry)) (now (more .entry)) (now (emoji .entry))) profile) (now (old .entry)) (now (new .entry))) (r .verdict) (r .refusal .number) (r .refusal .also) (r .agreed) (r .old .kind) (r .old .start) (r .old .len) (r .new .kind) (r .new .start) (r .new .len) ⌝ }
 {
     let mut a: usize = 0;
     let mut b: usize = 0;

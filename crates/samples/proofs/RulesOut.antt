@@ -18,7 +18,7 @@ use Rattle.letters.specs.Chars.{whitespace}
 use Rattle.lexer.specs.Kinds.{marks, markIn}
 use Rattle.lexer.specs.Cut.{notLf, isDigit, isHexDigit, block, slash, digits, exponent, exponentOf, point, fraction, based, number, isUnit, quoted, withoutLf, twice, quoteKind, agree, identifier, suffix, advance, piece, tokens, flat}
 use Rattle.lexer.specs.Unicode.{unicode}
-use Rattle.lexer.specs.Outcome.{tokensOf, outcome, listed, Listed}
+use Rattle.lexer.specs.Outcome.{tokensOf, answerOf, listed, Listed}
 
 -- ---- texts: a semicolon, a comma, two semicolons, 1.e5; a NUL in a line comment, a block comment and a quoted text
 abbrev semicolon : List ℕ
@@ -48,7 +48,7 @@ room = 7 ∷ 7 ∷ 7 ∷ 7 ∷ 7 ∷ 7 ∷ []
 
 -- what the promise leaves of each under profile 0: number, also, and the list
 abbrev Only : List ℕ → List ℕ → ℕ → ℕ → List ℕ → Type 0
-Only text list number also after = (outcome text 0 (length list) ≡ (number, also)) × (listed text 0 list ≡ after)
+Only text list number also after = (answerOf text 0 (length list) ≡ (number, also)) × (listed text 0 list ≡ after)
 
 leaves :
     (Only semicolon room 0 1 (10 ∷ 1 ∷ 0 ∷ 7 ∷ 7 ∷ 7 ∷ []))
@@ -59,7 +59,7 @@ leaves :
     × (Only line-nul room 0 1 (1 ∷ 4 ∷ 0 ∷ 7 ∷ 7 ∷ 7 ∷ []))
     × (Only block-nul room 0 1 (2 ∷ 5 ∷ 0 ∷ 7 ∷ 7 ∷ 7 ∷ []))
     × (Only quote-nul room 0 1 (57 ∷ 3 ∷ 3 ∷ 7 ∷ 7 ∷ 7 ∷ []))
-unfolding all pieces cut eat inTable xidStart xidContinue emoji table behind begins joined readBy first next chars width goodBytes validUpTo bytes skip checkText checkCut whitespace marks markIn unicode tokensOf outcome listed notLf isDigit isHexDigit block slash digits exponent exponentOf point fraction based number isUnit quoted withoutLf twice quoteKind agree identifier suffix advance piece tokens flat
+unfolding all pieces cut eat inTable xidStart xidContinue emoji table behind begins joined readBy first next chars width goodBytes validUpTo bytes skip checkText checkCut whitespace marks markIn unicode tokensOf answerOf listed notLf isDigit isHexDigit block slash digits exponent exponentOf point fraction based number isUnit quoted withoutLf twice quoteKind agree identifier suffix advance piece tokens flat
 leaves = ((refl, refl), (refl, refl), (refl, refl), (refl, refl), (refl, refl), (refl, refl), (refl, refl), (refl, refl))
 
 -- an exponent for 1.e5, so that no suffix is left
@@ -100,4 +100,4 @@ rules-out-writing-nothing p = let e : _≡_ {A = ℕ} 7 10 = ap (λ (x : List �
 -- a refusal that writes, at any text, profile and list: a refused call leaves the list as it was
 pub rules-out-refusal-writes : {s : List ℕ} {profile : ℕ} {list : List ℕ} {n a : ℕ} {l : List ℕ} → Listed s profile list n a l → (n ≡ 0 → ⊥) → l ≡ list
 unfolding listed
-rules-out-refusal-writes {s} {profile} {list} p h = p .words ∙ rw (ne-eqb (outcome s profile (length list) .0) 0 (λ e. h (p .answer .number-is ∙ e)))
+rules-out-refusal-writes {s} {profile} {list} p h = p .words ∙ rw (ne-eqb (answerOf s profile (length list) .0) 0 (λ e. h (p .answer .number-is ∙ e)))

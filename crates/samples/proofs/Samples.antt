@@ -2,7 +2,7 @@
 -- Assumes nothing.
 use mathlib.Core.Path.{_≡_, refl}
 use mathlib.Core.List.{flatten}
-use Rattle.lists.specs.All.{all}
+use Rattle.lists.specs.All.{all, Each}
 use Rattle.lists.specs.Cut.{pieces, cut}
 use Rattle.lists.specs.Eat.{eat}
 use Rattle.unicode.specs.Ranges.{inTable}
@@ -13,19 +13,18 @@ use Rattle.text.specs.Answer.{checkText, checkCut}
 use Rattle.letters.specs.Chars.{whitespace}
 use Rattle.lexer.specs.Kinds.{marks, markIn}
 use Rattle.lexer.specs.Unicode.{unicode}
-use Rattle.lexer.specs.Outcome.{tokensOf, outcome, listed}
+use Rattle.lexer.specs.Outcome.{tokensOf, answerOf, listed}
 use Rattle.modes.specs.Modes.{isSingle, isRaw, charactersShouldBeAscii}
 use Rattle.unescape.specs.Escapes.{toDigit, hexDigit, hexEscape, firstDigit, moreDigits, codePoint, closing, braced, unicodeEscape, simple, escape, asciiCheck}
 use Rattle.unescape.specs.Bodies.{alone, oneChar, charOrByte, items, itemsOf, flat as flatItems}
-use Rattle.unescape.specs.Outcome.{outcome as bodyOutcome, listed as bodyListed}
+use Rattle.unescape.specs.Outcome.{answerOf as bodyAnswer, listed as bodyListed}
 use Rattle.tokens.specs.Members.{isCounted, counted, membersBy, membersOf}
-use Rattle.renewal.specs.Key.{bodyLength, digits as keyDigits, nextText, texts, held, encode, keyOf, keyOfText}
-use Rattle.renewal.specs.Outcome.{outcome as keyOutcome, keyed}
-use Rattle.tokens.specs.Tiling.{Each}
+use Rattle.renewal.specs.Key.{bodyLength, lowBytes, nextText, texts, held, encode, keyOf, keyOfText}
+use Rattle.renewal.specs.Outcome.{answerOf as keyAnswer, keyed}
 use Rattle.samples.specs.Samples.{Sample, does, samples}
 use Rattle.lexer.specs.Cut.{notLf, isDigit, isHexDigit, block, slash, digits, exponent, exponentOf, point, fraction, based, number, isUnit, quoted, withoutLf, twice, quoteKind, agree, pound, name, word, annotated, hardware, identifier, suffix, advance, piece, tokens, flat}
 
 pub all-samples : Each (λ (x : Sample). does (x .call) ≡ (x .answer, x .after)) samples
-unfolding isCounted counted membersBy membersOf bodyLength keyDigits nextText flatten texts held encode keyOf keyOfText keyOutcome keyed isSingle isRaw charactersShouldBeAscii toDigit hexDigit hexEscape firstDigit moreDigits codePoint closing braced unicodeEscape simple escape asciiCheck alone oneChar charOrByte items itemsOf flatItems bodyOutcome bodyListed pieces cut eat inTable xidStart xidContinue emoji table behind begins joined readBy first next chars width goodBytes validUpTo bytes skip checkText checkCut whitespace marks markIn unicode tokensOf outcome listed notLf isDigit isHexDigit block slash digits exponent exponentOf point fraction based number isUnit quoted all withoutLf twice quoteKind agree pound name word annotated hardware identifier suffix advance piece tokens flat samples
+unfolding isCounted counted membersBy membersOf bodyLength lowBytes nextText flatten texts held encode keyOf keyOfText keyAnswer keyed isSingle isRaw charactersShouldBeAscii toDigit hexDigit hexEscape firstDigit moreDigits codePoint closing braced unicodeEscape simple escape asciiCheck alone oneChar charOrByte items itemsOf flatItems bodyAnswer bodyListed pieces cut eat inTable xidStart xidContinue emoji table behind begins joined readBy first next chars width goodBytes validUpTo bytes skip checkText checkCut whitespace marks markIn unicode tokensOf answerOf listed notLf isDigit isHexDigit block slash digits exponent exponentOf point fraction based number isUnit quoted all withoutLf twice quoteKind agree pound name word annotated hardware identifier suffix advance piece tokens flat samples
 all-samples =
     (refl, (refl, (refl, (refl, (refl, (refl, (refl, (refl, (refl, (refl, (refl, (refl, (refl, (refl, (refl, (refl, (refl, (refl, tt))))))))))))))))))

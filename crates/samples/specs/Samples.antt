@@ -1,9 +1,9 @@
--- The starred samples of the scope in one table: a call, what it answers, and what it leaves in the memory that it was lent.
+-- The starred samples of the scope, and its example of a key, in one table: a call, what it answers, and what it leaves in the memory that it was lent.
 -- Assumes nothing.
 use Prim.Native.Nat.{ℕ}
 use mathlib.Core.List.{List, [], _∷_}
 use lib.ListN.{length}
-use Rattle.lexer.specs.Outcome.{outcome, listed}
+use Rattle.lexer.specs.Outcome.{answerOf, listed}
 use Rattle.unescape.specs.Outcome as bodies
 use Rattle.renewal.specs.Outcome as keys
 
@@ -15,9 +15,9 @@ pub data Call : Type 0 where
 
 -- the number and what is also returned, and the list behind the call
 abbrev pub does : Call → (ℕ × ℕ) × List ℕ
-does (tokenize text profile list) = (outcome text profile (length list), listed text profile list)
-does (unescape body mode list) = (bodies.outcome body mode (length list), bodies.listed body mode list)
-does (renewalKey text profile key) = (keys.outcome text profile (length key), keys.keyed text profile key)
+does (tokenize text profile list) = (answerOf text profile (length list), listed text profile list)
+does (unescape body mode list) = (bodies.answerOf body mode (length list), bodies.listed body mode list)
+does (renewalKey text profile key) = (keys.answerOf text profile (length key), keys.keyed text profile key)
 
 pub record Sample : Type 0 where
   pub call : Call
@@ -35,6 +35,12 @@ one text kind len suff =
 
 unfoldable pub samples : List Sample
 samples =
+    -- the key of x=0b1;//t
+    record {
+      call = renewalKey (0x78 ∷ 0x3D ∷ 0x30 ∷ 0x62 ∷ 0x31 ∷ 0x3B ∷ 0x2F ∷ 0x2F ∷ 0x74 ∷ []) 0 (7 ∷ 7 ∷ 7 ∷ 7 ∷ 7 ∷ 7 ∷ 7 ∷ 7 ∷ 7 ∷ 7 ∷ 7 ∷ 7 ∷ 7 ∷ 7 ∷ 7 ∷ 7 ∷ 7 ∷ 7 ∷ 7 ∷ 7 ∷ 7 ∷ 7 ∷ 7 ∷ []);
+      answer = (0, 22);
+      after = 0x05 ∷ 0x01 ∷ 0x00 ∷ 0x00 ∷ 0x00 ∷ 0x81 ∷ 0x78 ∷ 0x19 ∷ 0x28 ∷ 0x03 ∷ 0x00 ∷ 0x00 ∷ 0x00 ∷ 0x03 ∷ 0x00 ∷ 0x00 ∷ 0x00 ∷ 0x83 ∷ 0x30 ∷ 0x62 ∷ 0x31 ∷ 0x0A ∷ 7 ∷ [];
+    } ∷
     -- the empty text
     record { call = tokenize [] 0 (7 ∷ 7 ∷ []); answer = (0, 0); after = 7 ∷ 7 ∷ [] } ∷
     record { call = renewalKey [] 0 (7 ∷ 7 ∷ []); answer = (0, 0); after = 7 ∷ 7 ∷ [] } ∷
@@ -71,12 +77,6 @@ samples =
       call = unescape (0x5C ∷ 0x75 ∷ 0x7B ∷ 0x44 ∷ 0x38 ∷ 0x30 ∷ 0x30 ∷ 0x7D ∷ []) 2 (7 ∷ 7 ∷ 7 ∷ []);
       answer = (0, 1);
       after = 0 ∷ 8 ∷ 1114131 ∷ [];
-    } ∷
-    -- the key of x=0b1;//t
-    record {
-      call = renewalKey (0x78 ∷ 0x3D ∷ 0x30 ∷ 0x62 ∷ 0x31 ∷ 0x3B ∷ 0x2F ∷ 0x2F ∷ 0x74 ∷ []) 0 (7 ∷ 7 ∷ 7 ∷ 7 ∷ 7 ∷ 7 ∷ 7 ∷ 7 ∷ 7 ∷ 7 ∷ 7 ∷ 7 ∷ 7 ∷ 7 ∷ 7 ∷ 7 ∷ 7 ∷ 7 ∷ 7 ∷ 7 ∷ 7 ∷ 7 ∷ 7 ∷ []);
-      answer = (0, 22);
-      after = 0x05 ∷ 0x01 ∷ 0x00 ∷ 0x00 ∷ 0x00 ∷ 0x81 ∷ 0x78 ∷ 0x19 ∷ 0x28 ∷ 0x03 ∷ 0x00 ∷ 0x00 ∷ 0x00 ∷ 0x03 ∷ 0x00 ∷ 0x00 ∷ 0x00 ∷ 0x83 ∷ 0x30 ∷ 0x62 ∷ 0x31 ∷ 0x0A ∷ 7 ∷ [];
     } ∷
     -- the lone byte FF
     record { call = tokenize (0xFF ∷ []) 0 (7 ∷ 7 ∷ 7 ∷ []); answer = (3, 0); after = 7 ∷ 7 ∷ 7 ∷ [] } ∷

@@ -1,4 +1,4 @@
--- What comes back from every entry: a number, and what is also returned with it; and the checks that each entry that takes text begins with.
+-- What comes back from an entry that can refuse: a number, and what is also returned with it; and the checks that it begins with.
 -- Assumes nothing.
 use mathlib.Core.Path.{_≡_}
 use mathlib.Core.Bool.{Bool, cond}
@@ -38,6 +38,13 @@ infixr 20 _andThen_
 abbrev pub _andThen_ : ℕ × ℕ → ℕ × ℕ → ℕ × ℕ
 x andThen y = cond (eqb (x .0) done) y x
 
+-- the profiles that are known: 0 and 1
+abbrev pub knownProfile : ℕ → Bool
+knownProfile p = ltb p 2
+
+abbrev pub checkProfile : ℕ → ℕ × ℕ
+checkProfile p = cond (knownProfile p) (done, 0) (unknownSelector, 0)
+
 abbrev pub checkLength : List ℕ → ℕ × ℕ
 checkLength s = cond (ltb longest (length s)) (tooLong, 0) (done, 0)
 
@@ -48,14 +55,7 @@ checkUtf8 s = cond (ltb (validUpTo s) (length s)) (notUtf8, validUpTo s) (done, 
 unfoldable pub checkText : List ℕ → ℕ × ℕ
 checkText s = checkLength s andThen checkUtf8 s
 
--- the profiles that are known: 0 and 1
-abbrev pub knownProfile : ℕ → Bool
-knownProfile p = ltb p 2
-
-abbrev pub checkProfile : ℕ → ℕ × ℕ
-checkProfile p = cond (knownProfile p) (done, 0) (unknownSelector, 0)
-
--- the checks of every entry that cuts tokens or makes keys
+-- the checks of the entries that list tokens or make keys
 unfoldable pub checkCut : List ℕ → ℕ → ℕ × ℕ
 checkCut s p = checkProfile p andThen checkText s
 

@@ -1,4 +1,4 @@
-// What every entry answers, and the checks that every entry that takes text begins with.
+// What an entry that can refuse answers, and the checks that it begins with.
 ghost use Rattle.text.specs.Answer.{Answered, checkText, checkCut};
 use unicode::utf8::valid_up_to;
 
@@ -50,7 +50,7 @@ pub fn check_text(text: &[u8]) -> Answer
     }
 }
 
-// Refusal 1 for an unknown profile, then what check_text refuses: for every entry that cuts tokens or makes keys.
+// Refusal 1 for an unknown profile, then what check_text refuses: for the entries that list tokens or make keys.
 pub fn check_cut(text: &[u8], profile: u32) -> Answer
     ensures { λ r. ⌜ Answered (checkCut (now (text .entry)) profile) (r .number) (r .also) ⌝ }
 {

@@ -8,12 +8,12 @@ use mathlib.Core.List.{List, [], _∷_, _++_}
 use lib.Dec.{eqb}
 use lib.ListN.{length, take, drop}
 use borrow.Author.Tests.{ne-eqb, eqb-true}
+use Rattle.lists.specs.All.{Each}
 use Rattle.lists.proofs.Bools.{by-test}
 use Rattle.unicode.specs.Utf8.{first, chars}
 use Rattle.unicode.proofs.Text.{chars-nil, chars-first}
 use Rattle.unicode.proofs.Ascii.{chars-ascii, wide-code}
 use Rattle.lexer.specs.Cut.{agree}
-use Rattle.tokens.specs.Tiling.{Each}
 
 pub agree-most : (w l : List ℕ) → agree w l ≤ length w
 unfolding agree

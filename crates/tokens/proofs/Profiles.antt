@@ -18,7 +18,7 @@ use Rattle.unicode.proofs.Ascii.{skip-bytes}
 use Rattle.unicode.specs.Ranges.{inTable}
 use Rattle.ucd.specs.Ucd.{xidStart, xidContinue}
 use Rattle.letters.specs.Chars.{isWhitespace, whitespace}
-use Rattle.lexer.specs.Kinds.{ident, invalidIdent, pragma}
+use Rattle.lexer.specs.Kinds.{ident, invalidIdent}
 use Rattle.lexer.specs.Cut.{Letters, Tok, peek, notLf, agree, pragmaWord, wideEmoji, name, word, advance, piece, tokens, total}
 use Rattle.lexer.specs.Unicode.{unicode}
 use Rattle.lexer.specs.Outcome.{tokensOf}
@@ -55,7 +55,7 @@ letters-more : (unicode .more 0x72 ≡ true) × (unicode .more 0x61 ≡ true) ×
 unfolding unicode xidContinue inTable
 letters-more = (refl, refl, refl, refl)
 
-advance-p : (profile : ℕ) (t : List ℕ) → advance unicode profile 0x70 t ≡ record { kind = word unicode profile 0x70 t .0; mark = 0x70 ∷ t; rest = word unicode profile 0x70 t .1 }
+advance-p : (profile : ℕ) (t : List ℕ) → advance unicode profile 0x70 t ≡ record { kind = word unicode profile 0x70 t .0; suff = 0x70 ∷ t; rest = word unicode profile 0x70 t .1 }
 unfolding advance
 advance-p profile t = rw (p-space, p-start)
 

@@ -31,7 +31,7 @@ not-both k p l =
 
 -- the record of a token of that shape
 pub formed-of : (c : ℕ) (t : List ℕ) (a : Token) → Shape c t a →
-    Formed (record { kind = a .kind; len = bytes (c ∷ t) - bytes (a .rest); suff = bytes (c ∷ t) - bytes (a .mark) })
+    Formed (record { kind = a .kind; len = bytes (c ∷ t) - bytes (a .rest); suff = bytes (c ∷ t) - bytes (a .suff) })
 unfolding bytes
 formed-of c t a (plain k m e) =
     record {

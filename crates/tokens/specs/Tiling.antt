@@ -3,14 +3,10 @@
 use Prim.Native.Nat.{ℕ, _≤_}
 use mathlib.Core.Path.{_≡_}
 use mathlib.Core.Bool.{true, _||_}
-use mathlib.Core.List.{List, [], _∷_}
+use mathlib.Core.List.{List}
+use Rattle.lists.specs.All.{Each}
 use Rattle.lexer.specs.Kinds.{isPlain, isLiteral}
 use Rattle.lexer.specs.Cut.{Tok, total}
-
--- each element of a list has P
-abbrev pub Each : {A : Type 0} → (A → Type 0) → List A → Type 0
-Each P [] = Unit {0}
-Each P (a ∷ l) = P a × Each P l
 
 -- a token's record: it has a kind that is listed and at least one byte; suffix start 0 unless it is a literal, else between 1 and its length
 pub record Formed (t : Tok) : Type 0 where

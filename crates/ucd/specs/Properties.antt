@@ -1,5 +1,5 @@
 -- The properties of characters that the lexer and the unescaper ask: membership in the tables of the Unicode Character Database.
--- A number that is no scalar value has none of them.
+-- A number that is no scalar value has none of the four.
 -- Assumes nothing.
 use mathlib.Core.Bool.{Bool, cond}
 use mathlib.Core.List.{List, [], _∷_}
@@ -21,7 +21,8 @@ isEmoji c = inTable c emoji
 abbrev pub isWhiteSpace : ℕ → Bool
 isWhiteSpace c = inTable c whiteSpace
 
--- ---- the same tests over a table that is lent: ASCII is decided before it, by the ranges of each property below 0x80
+-- ---- the tests over a table that is lent, which go by what it holds, and on a property's own table are as above: ASCII is decided before it, by the
+-- ranges of each property below 0x80
 unfoldable pub asciiStart : List Range
 asciiStart = 0x41 to 0x5A ∷ 0x61 to 0x7A ∷ []
 

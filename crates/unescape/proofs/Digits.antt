@@ -1,6 +1,6 @@
 -- Hexadecimal digits: the laws of `toDigit`, and of the loop that reads the digits of \u{..}.
 -- Assumes nothing.
-use Prim.Native.Nat.{ℕ, zero, suc, _+_, _-_, _*_, _^_, _≤_, _<_, min}
+use Prim.Native.Nat.{ℕ, suc, _+_, _-_, _*_, _^_, _≤_, _<_, min}
 use native.Mathlib.Omega.{arith}
 use native.Mathlib.Nat.{pow-suc, pow-le-pow-right}
 use mathlib.Core.Path.{_≡_, refl, ap, sym, _∙_}
@@ -9,11 +9,13 @@ use mathlib.Core.List.{List}
 use lib.ListN.{length, getD}
 use lib.Dec.{eqb, ltb}
 use borrow.Author.Tests.{lt-leb, ltb-true, ltb-false, ne-eqb, not-false}
+use Rattle.lists.specs.Values.{valuesFrom}
 use Rattle.lists.proofs.Bools.{by-test, and-false}
+use Rattle.lists.proofs.Values.{values-at}
 use Rattle.unicode.specs.Text.{Ate}
 use Rattle.unicode.proofs.Ascii.{Going, going-none, going-on, going-halt, going-end}
-use Rattle.unescape.specs.Escapes.{toDigit, orUnderscore, counted, valued, addDigit}
-use Rattle.unescape.specs.Steps.{digitsFrom, digitValues}
+use Rattle.unescape.specs.Escapes.{toDigit, orUnderscore, countDigit, valued, addDigit}
+use Rattle.unescape.specs.Steps.{digitValues}
 
 -- ---- the table, and what lies outside
 pub digit-below : (c : ℕ) → c < 0x30 → 16 ≡ toDigit c
@@ -25,14 +27,8 @@ unfolding toDigit
 above c h =
     simp (lt-leb c 0x39 (omega arith), lt-leb c 0x46 (omega arith), lt-leb c 0x66 (omega arith), and-false)
 
-from-at : (n k i : ℕ) → i < n → getD (digitsFrom k n) i 0 ≡ toDigit (k + i)
-unfolding digitsFrom
-from-at zero k i h = absurd (omega arith)
-from-at (suc n) k zero h = let e : k + 0 ≡ k = omega arith in rw e
-from-at (suc n) k (suc i) h = let e : k + suc i ≡ suc k + i = omega arith in rw e (from-at n (suc k) i (omega arith))
-
 values-long : length digitValues ≡ 55
-unfolding digitValues digitsFrom
+unfolding digitValues valuesFrom
 values-long = refl
 
 module _ (c : ℕ) {digits : List ℕ} {i : ℕ} (t : digits ≡ digitValues) (l : 0x30 ≤ c) (f : i ≡ c - 0x30) where
@@ -40,7 +36,7 @@ module _ (c : ℕ) {digits : List ℕ} {i : ℕ} (t : digits ≡ digitValues) (l
   unfolding digitValues
   digit-read h e =
       let k : i < 55 = omega (arith, ap length t, values-long) in
-      e ∙ ap (λ (m : List ℕ). getD m i 0) t ∙ from-at 55 0x30 i k ∙ (let z : 0x30 + i ≡ c = omega arith in rw z)
+      e ∙ ap (λ (m : List ℕ). getD m i 0) t ∙ values-at toDigit 55 0x30 i k ∙ (let z : 0x30 + i ≡ c = omega arith in rw z)
 
   pub digit-above : length digits ≤ i → 16 ≡ toDigit c
   digit-above h = above c (omega (arith, ap length t, values-long))
@@ -78,7 +74,7 @@ small-more n v d s h k =
     let p = pow-suc 16 n in
     record { below = rw (f, p) (omega arith) }
 
-pub small-on : (c : ℕ) {n v n′ v′ : ℕ} {b : Bool} → Small n v → b ≡ orUnderscore c → not b ≡ false → n′ ≡ counted n c → v′ ≡ valued n v c → Small n′ v′
+pub small-on : (c : ℕ) {n v n′ v′ : ℕ} {b : Bool} → Small n v → b ≡ orUnderscore c → not b ≡ false → n′ ≡ countDigit n c → v′ ≡ valued n v c → Small n′ v′
 small-on c {n} {v} {n′} {v′} {b} s o t e f =
     let g : orUnderscore c ≡ true = sym o ∙ not-false b t in
     by-test (eqb c 0x5F)
@@ -95,11 +91,11 @@ small-on c {n} {v} {n′} {v′} {b} s o t e f =
     rw (x, y) (record { below = rw j (rw i at (s .below)) })))
 
 -- no more digits than bytes
-pub count-few : (c at : ℕ) {n n′ at′ : ℕ} → n ≤ at + 1 → n′ ≡ counted n c → at′ ≡ at + 1 → n′ ≤ at′ + 1
+pub count-few : (c at : ℕ) {n n′ at′ : ℕ} → n ≤ at + 1 → n′ ≡ countDigit n c → at′ ≡ at + 1 → n′ ≤ at′ + 1
 count-few c at h e f = rw e (by-test (eqb c 0x5F) (λ k. rw k (omega arith)) (λ k. rw k (omega arith)))
 
 -- one digit more, as the loop's law takes it
-pub added : (n v c : ℕ) {n′ v′ : ℕ} → n′ ≡ counted n c → v′ ≡ valued n v c → (n′, v′) ≡ addDigit (n, v) c
+pub added : (n v c : ℕ) {n′ v′ : ℕ} → n′ ≡ countDigit n c → v′ ≡ valued n v c → (n′, v′) ≡ addDigit (n, v) c
 added n v c e f = rw (e, f)
 
 -- where they end

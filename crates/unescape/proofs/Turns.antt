@@ -21,8 +21,8 @@ use Rattle.unescape.specs.declared.bodies.Step.{Step}
 use Rattle.modes.specs.Modes.{isRaw, charactersShouldBeAscii}
 use Rattle.modes.specs.Errors.{Outcome, char, error, number}
 use Rattle.unescape.specs.Escapes.{hexEscape, unicodeEscape, simple, escape, asciiCheck}
-use Rattle.unescape.specs.Bodies.{Item, alone, isEscapeOnly, oneChar, charOrByte, strChar, rawChar, isSkipped, sawLf, one, unskipped, skipped, slashed, strCommon, rawStr, turn}
-use Rattle.unescape.specs.Steps.{resultOf, endOf, errorOf, escapeAt, stepOf, given, Scanned, Stepped, Behind, onFirst}
+use Rattle.unescape.specs.Bodies.{Item, given, alone, isEscapeOnly, oneChar, charOrByte, strChar, rawChar, isSkipped, sawLf, one, unskipped, skipped, slashed, strCommon, rawStr, turn}
+use Rattle.unescape.specs.Steps.{resultOf, endOf, errorOf, escapeAt, stepOf, Scanned, Stepped, Behind, onFirst}
 use Rattle.unescape.proofs.Scans.{result-at, end-at, scanned-as, scanned-end, scanned-same, scanned-stay}
 use Rattle.unescape.proofs.Fair.{fault, Told, Any, allows-any, hex-escape-fair, unicode-escape-fair, simple-told, ascii-told, str-told, char-told}
 use Rattle.unescape.proofs.Escaping.{escape-none}

@@ -29,9 +29,9 @@ use Rattle.unescape.specs.declared.bodies.Step.{Step}
 use Rattle.modes.specs.Modes.{isRaw, isSingle, charactersShouldBeAscii, byteMode}
 use Rattle.modes.specs.Errors.{Outcome, error, number}
 use Rattle.unescape.specs.Escapes.{escape}
-use Rattle.unescape.specs.Bodies.{Item, charOrByte, strChar, rawChar, isSkipped, sawLf, item, one, unskipped, skipped, slashed, strCommon, rawStr, turn, turns, items, itemsOf, flat}
-use Rattle.unescape.specs.Steps.{endOf, stepOf, given, Scanned, onFirst, Stepped, wordsOf, Walked, Stored}
-use Rattle.unescape.specs.Outcome.{outcome, listed, Unescaped, part, single}
+use Rattle.unescape.specs.Bodies.{Item, given, charOrByte, strChar, rawChar, isSkipped, sawLf, item, one, unskipped, skipped, slashed, strCommon, rawStr, turn, turns, items, itemsOf, flat}
+use Rattle.unescape.specs.Steps.{endOf, stepOf, Scanned, onFirst, Stepped, wordsOf, Walked, Stored}
+use Rattle.unescape.specs.Outcome.{answerOf, listed, Unescaped, part, single}
 use Rattle.unescape.proofs.Fair.{allows-any, escape-fair}
 use Rattle.unescape.proofs.Turns.{place-of}
 
@@ -271,21 +271,21 @@ not-writing e = absurd (false≢true e)
 -- ---- the whole
 module _ {s list list′ : List ℕ} {mode number also : ℕ} where
   pub unescaped-unknown : 7 ≤ mode → number ≡ unknownSelector → also ≡ 0 → list′ ≡ list → Unescaped s mode list number also list′
-  unfolding outcome listed
+  unfolding answerOf listed
   unescaped-unknown h n a e =
       let k = le-ltb mode 7 h in
       record { answer = rw k (record { number-is = n; also-is = a }); words = rw k e }
 
   module _ (h : mode < 7) {n₀ a₀ : ℕ} (c : Answered (checkText s) n₀ a₀) where
     pub unescaped-refused : (n₀ ≡ done → ⊥) → number ≡ n₀ → also ≡ a₀ → list′ ≡ list → Unescaped s mode list number also list′
-    unfolding outcome listed
+    unfolding answerOf listed
     unescaped-refused x n a e =
         let k = lt-ltb mode 7 h in
         let z : eqb (checkText s .0) done ≡ false = ne-eqb _ _ (λ y. x (c .number-is ∙ y)) in
         record { answer = rw (k, z) (record { number-is = n ∙ c .number-is; also-is = a ∙ c .also-is }); words = rw (k, z, z) e }
 
     pub unescaped-done : n₀ ≡ done → Stored (itemsOf mode s) list number also list′ → Unescaped s mode list number also list′
-    unfolding outcome listed
+    unfolding answerOf listed
     unescaped-done x r =
         let k = lt-ltb mode 7 h in
         let z : eqb (checkText s .0) done ≡ true = eq-eqb _ _ (sym (c .number-is) ∙ x) in

@@ -60,6 +60,10 @@ isSkipped c = eqb c 0x20 || (eqb c 0x09 || (eqb c 0x0A || eqb c 0x0D))
 abbrev pub sawLf : Bool → ℕ → Bool
 sawLf b c = b || eqb c 0x0A
 
+-- an item, where there is one
+abbrev pub given : Bool → Item → List Item
+given b i = cond b (i ∷ []) []
+
 -- in a body of so many bytes
 module _ (size : ℕ) where
   -- from where `from` is left to where `to` is left
@@ -73,12 +77,12 @@ module _ (size : ℕ) where
   -- warning 21: the character behind what was skipped is white space
   unfoldable pub unskipped : List ℕ → List ℕ → List Item
   unskipped from [] = []
-  unskipped from (c ∷ t) = cond (isWhiteSpace c) (item from t (error unskippedWhitespaceWarning) ∷ []) []
+  unskipped from (c ∷ t) = given (isWhiteSpace c) (item from t (error unskippedWhitespaceWarning))
 
   -- warning 22, if a second newline was skipped, and then warning 21
   unfoldable pub skipped : List ℕ → Bool × List ℕ → List Item × List ℕ
   skipped from (second, r) =
-      (cond second (item from r (error multipleSkippedLinesWarning) ∷ []) [] ++ unskipped from r, r)
+      (given second (item from r (error multipleSkippedLinesWarning)) ++ unskipped from r, r)
 
   -- behind a backslash: a newline, with the spaces, tabs, LF and CR behind it, is skipped; else an escape
   unfoldable pub slashed : Bool → List ℕ → List ℕ → List Item × List ℕ

@@ -9,7 +9,7 @@ use Rattle.unicode.specs.Ranges.{_to_, inRange}
 use Rattle.unicode.specs.Utf8.{isScalar}
 use Rattle.modes.specs.Errors.{Outcome, char, error, loneSlash, invalidEscape, tooShortHexEscape, invalidCharInHexEscape, noBraceInUnicodeEscape, invalidCharInUnicodeEscape, emptyUnicodeEscape, unclosedUnicodeEscape, leadingUnderscoreUnicodeEscape, overlongUnicodeEscape, loneSurrogateUnicodeEscape, outOfRangeUnicodeEscape, unicodeEscapeInByte, nonAsciiCharInByte}
 
--- a character goes on; an error ends the escape
+-- with what was read the escape goes on, a character or the value of a digit; an error ends it
 infixr 20 _then_
 abbrev pub _then_ : Outcome × List ℕ → (ℕ → List ℕ → Outcome × List ℕ) → Outcome × List ℕ
 (char v, t) then f = f v t
@@ -49,14 +49,14 @@ firstDigit (c ∷ t) = (
 abbrev pub orUnderscore : ℕ → Bool
 orUnderscore c = eqb c 0x5F || isHex c
 
-abbrev pub counted : ℕ → ℕ → ℕ
-counted n c = cond (eqb c 0x5F) n (n + 1)
+abbrev pub countDigit : ℕ → ℕ → ℕ
+countDigit n c = cond (eqb c 0x5F) n (n + 1)
 
 abbrev pub valued : ℕ → ℕ → ℕ → ℕ
 valued n v c = cond (eqb c 0x5F) v (cond (ltb n 6) (v * 16 + toDigit c) v)
 
 abbrev pub addDigit : ℕ × ℕ → ℕ → ℕ × ℕ
-addDigit (n, v) c = (counted n c, valued n v c)
+addDigit (n, v) c = (countDigit n c, valued n v c)
 
 unfoldable pub moreDigits : ℕ → List ℕ → (ℕ × ℕ) × List ℕ
 moreDigits v t = eat orUnderscore addDigit (1, v) t

@@ -1,4 +1,5 @@
--- What may be relied on of the items of a body, in the order in which they are listed.
+-- What may be relied on of the items of a well-formed body, in the order in which they are listed; but for the empty body of Char or Byte, whose one
+-- item is empty.
 -- Assumes nothing.
 use Prim.Native.Nat.{ℕ, _+_, _-_, _≤_, _<_}
 use mathlib.Core.Path.{_≡_}

@@ -15,17 +15,17 @@ use Rattle.unescape.specs.Bodies.{charOrByte, itemsOf, flat}
 
 -- ---- unescape_literal
 -- the number and what is also returned, for a list of so many words: three words for each item
-unfoldable pub outcome : List ℕ → ℕ → ℕ → ℕ × ℕ
-outcome s mode words =
+unfoldable pub answerOf : List ℕ → ℕ → ℕ → ℕ × ℕ
+answerOf s mode words =
     checkMode mode andThen (checkText s andThen checkRoom (words / 3) (length (itemsOf mode s)))
 
 -- the words of the items, and behind them what stood there; a refusal changes nothing
 unfoldable pub listed : List ℕ → ℕ → List ℕ → List ℕ
 listed s mode list =
-    cond (eqb (outcome s mode (length list) .0) done) (over (flat (itemsOf mode s)) list) list
+    cond (eqb (answerOf s mode (length list) .0) done) (over (flat (itemsOf mode s)) list) list
 
 pub record Unescaped (s : List ℕ) (mode : ℕ) (list : List ℕ) (number also : ℕ) (list′ : List ℕ) : Type 0 where
-  pub answer : Answered (outcome s mode (length list)) number also
+  pub answer : Answered (answerOf s mode (length list)) number also
   pub words : list′ ≡ listed s mode list
 
 -- ---- unescape_part: the part of a text from `from` up to `to`; `to` is first brought down to the text's length, then `from` to `to`

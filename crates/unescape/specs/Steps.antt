@@ -1,6 +1,6 @@
 -- What the unescaper's own functions answer, by the places that they reach.
 -- Assumes nothing.
-use Prim.Native.Nat.{ℕ, zero, suc, _/_, _≤_, _<_}
+use Prim.Native.Nat.{ℕ, _/_, _≤_, _<_}
 use mathlib.Core.Path.{_≡_}
 use mathlib.Core.Bool.{Bool, true, false, cond}
 use mathlib.Core.List.{List, [], _∷_, _++_}
@@ -8,6 +8,7 @@ use lib.Dec.{eqb}
 use lib.ListN.{length}
 use lib.Seq.{sets}
 use Rattle.lists.specs.Over.{over}
+use Rattle.lists.specs.Values.{valuesFrom}
 use Rattle.unicode.specs.Text.{Place, left}
 use Rattle.text.specs.Answer.{Answered, done, checkRoom}
 use Rattle.unescape.specs.declared.escapes.Escape.{Escape}
@@ -15,15 +16,11 @@ use Rattle.unescape.specs.declared.escapes.Escape.the-variants.{Value, E
 use Rattle.unescape.specs.declared.bodies.Step.{Step}
 use Rattle.modes.specs.Errors.{Outcome, char, error, number, unskippedWhitespaceWarning}
 use Rattle.unescape.specs.Escapes.{toDigit}
-use Rattle.unescape.specs.Bodies.{Item, flat}
+use Rattle.unescape.specs.Bodies.{Item, given, flat}
 
 -- the constant table: what the 55 characters from 0 to f are worth
-unfoldable pub digitsFrom : ℕ → ℕ → List ℕ
-digitsFrom c zero = []
-digitsFrom c (suc n) = toDigit c ∷ digitsFrom (suc c) n
-
 unfoldable pub digitValues : List ℕ
-digitValues = digitsFrom 0x30 55
+digitValues = valuesFrom toDigit 0x30 55
 
 -- ---- the answer of a scanner: what it says, and the place behind it
 abbrev pub resultOf : Escape → Outcome
@@ -56,10 +53,6 @@ pub record Scanned (f : List ℕ → Outcome × List ℕ) (s : List ℕ) (at : �
 -- the turn of one scan
 abbrev pub stepOf : Escape → Step
 stepOf r = record { at = endOf r; some = true; outcome = number (resultOf r); space = false; past = endOf r }
-
--- an item, where there is one
-abbrev pub given : Bool → Item → List Item
-given b i = cond b (i ∷ []) []
 
 -- a turn at a place, where its items start, by the items and what is left behind it
 pub record Stepped (x : List Item × List ℕ) (s : List ℕ) (at : ℕ) (r : Step) : Type 0 where

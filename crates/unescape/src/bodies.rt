@@ -30,7 +30,7 @@ pub struct Step {
     pub past: usize,
 }
 
-// Where a run of white space ends, and whether it holds a newline.
+// Where a run of spaces, tabs, LF and CR ends, and whether it holds an LF.
 struct Spaces {
     at: usize,
     lines: bool,

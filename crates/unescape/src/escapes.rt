@@ -3,7 +3,7 @@ ghost use mathlib.Core.Path.{_≡_};
 ghost use Prim.Native.Nat.{_≤_, _<_};
 ghost use lib.ListN.{length};
 ghost use Rattle.unicode.specs.Text.{Ate};
-ghost use Rattle.unescape.specs.Escapes.{toDigit, hexDigit, hexEscape, firstDigit, orUnderscore, counted, valued, addDigit, codePoint, closing, braced, unicodeEscape, simple, escape, asciiCheck};
+ghost use Rattle.unescape.specs.Escapes.{toDigit, hexDigit, hexEscape, firstDigit, orUnderscore, countDigit, valued, addDigit, codePoint, closing, braced, unicodeEscape, simple, escape, asciiCheck};
 ghost use Rattle.unescape.specs.Steps.{digitValues, escapeAt, valueOf, Scanned};
 use modes::errors;
 use unicode::utf8::decode;
@@ -210,7 +210,7 @@ fn is_digit_or_underscore(c: u32, digit: u8) -> bool
 
 fn count_digit(count: usize, c: u32) -> usize
     requires { ⌜ count < 18446744073709551615 ⌝ }
-    ensures { λ r. ⌜ r ≡ counted count c ⌝ }
+    ensures { λ r. ⌜ r ≡ countDigit count c ⌝ }
 {
     if c == 0x5F {
         return count;

@@ -39,6 +39,10 @@ begins [] s = true
 begins (r ∷ more) [] = false
 begins (r ∷ more) (b ∷ s) = inRange b r && begins more s
 
+-- a byte that goes on with a character: behind a first byte the rows have all of this range or a part of it
+abbrev pub follows : ℕ → Bool
+follows b = inRange b (0x80 to 0xBF)
+
 -- ---- Table 3-6: the low 7, 5, 4 or 3 bits of the first byte, and the low 6 of each byte behind it
 abbrev pub lead : ℕ → ℕ → ℕ
 lead zero a = a % 128

@@ -7,7 +7,7 @@ use mathlib.Core.Bool.{Bool, true, false, _&&_, cond}
 use Prim.Native.Nat.{ℕ, _+_, _*_, _%_, _≤_, _<_}
 use lib.Dec.{eqb, ltb}
 use Rattle.unicode.specs.Ranges.{_to_, inRange}
-use Rattle.unicode.specs.Utf8.{noChar}
+use Rattle.unicode.specs.Utf8.{follows, noChar}
 
 pub record Reads (x : ℕ × ℕ) (code wide : ℕ) : Type 0 where
   pub code-is : code ≡ x .0
@@ -18,9 +18,6 @@ low a = cond (eqb a 0xE0) 0xA0 (cond (eqb a 0xF0) 0x90 0x80)
 
 unfoldable pub high : ℕ → ℕ
 high a = cond (eqb a 0xED) 0x9F (cond (eqb a 0xF4) 0x8F 0xBF)
-
-abbrev pub follows : ℕ → Bool
-follows b = inRange b (0x80 to 0xBF)
 
 unfoldable pub two : ℕ → ℕ → ℕ × ℕ
 two a b = cond (follows b) (a % 32 * 64 + b % 64, 2) (noChar a, 1)

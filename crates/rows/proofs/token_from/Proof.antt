@@ -1,6 +1,6 @@
 use borrow.Author.Needs.{needs}
 use native.Mathlib.Omega.{arith}
-use Rattle.lexer.proofs.Whole.{one-end, one-mark}
+use Rattle.lexer.proofs.Whole.{one-end, one-start}
 use Rattle.rows.proofs.Whole.{token-at}
 use Rattle.rows.proofs.token_from.Statement.{statement}
 use Rattle.rows.proofs.token_from.Tie as tie
@@ -15,10 +15,10 @@ cast-t9 : tie.Need-cast-t9
 cast-t9 c = omega (arith, one-end (c .before .token-at .ensures))
 
 sub-t10 : tie.Need-sub-t10
-sub-t10 c = omega (arith, one-mark (c .before .before .token-at .ensures))
+sub-t10 c = omega (arith, one-start (c .before .before .token-at .ensures))
 
 cast-t11 : tie.Need-cast-t11
-cast-t11 c = omega (arith, one-mark (c .before .before .token-at .ensures))
+cast-t11 c = omega (arith, one-start (c .before .before .token-at .ensures))
 
 returns : tie.Need-returns
 returns c = search (needs, token-at)

@@ -1,7 +1,7 @@
 use Prim.Native.Nat.{_-_}
 use native.Mathlib.Omega.{arith}
 use Rattle.lexer.specs.Unicode.{lent}
-use Rattle.lexer.proofs.Advancing.{end-some, end-within, mark-after, mark-within}
+use Rattle.lexer.proofs.Advancing.{end-some, end-within, suffix-after, suffix-within}
 use Rattle.lexer.proofs.Whole.{Filling, filling-none, fill-three, fill-on, fill-full, fill-end}
 use borrow.Author.Needs.{needs}
 use Rattle.lexer.proofs.list.fill.Statement.{statement}
@@ -26,10 +26,10 @@ cast-len : tie.Need-cast-len Inv-loop μ-loop
 cast-len c = omega (arith, end-within)
 
 sub-suffix : tie.Need-sub-suffix Inv-loop μ-loop
-sub-suffix c = omega (arith, mark-after)
+sub-suffix c = omega (arith, suffix-after)
 
 cast-suffix : tie.Need-cast-suffix Inv-loop μ-loop
-cast-suffix c = omega (arith, mark-within)
+cast-suffix c = omega (arith, suffix-within)
 
 mul-put : tie.Need-mul-put Inv-loop μ-loop
 mul-put c = search needs

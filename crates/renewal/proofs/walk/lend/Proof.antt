@@ -1,7 +1,8 @@
 use mathlib.Core.Path.{refl}
+use Rattle.lists.specs.Values.{valuesFrom}
 use Rattle.ucd.specs.Ucd.{xidStart, xidContinue, emoji}
 use Rattle.renewal.specs.Key.{bodyLength}
-use Rattle.renewal.specs.Steps.{bodiesFrom, bodies}
+use Rattle.renewal.specs.Steps.{bodies}
 use Rattle.renewal.proofs.Whole.{lent-stored}
 use borrow.Author.Needs.{needs}
 use Rattle.renewal.proofs.walk.lend.Statement.{statement}
@@ -20,7 +21,7 @@ slice-aggregate-store-4 : tie.Need-slice-aggregate-store-4
 slice-aggregate-store-4 c = search needs
 
 store-requires : tie.Need-store-requires
-unfolding bodies bodiesFrom bodyLength
+unfolding bodies valuesFrom bodyLength
 store-requires c κs = (search needs, refl)
 
 same-length : tie.Need-same-length

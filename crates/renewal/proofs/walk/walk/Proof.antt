@@ -3,7 +3,7 @@ use native.Mathlib.Omega.{arith}
 use mathlib.Core.Path.{_≡_}
 use lib.ListN.{length}
 use Rattle.lexer.specs.Unicode.{lent}
-use Rattle.renewal.specs.Steps.{cutBy}
+use Rattle.lexer.specs.Outcome.{tokensBy}
 use Rattle.renewal.proofs.Walking.{Walking, walking-none}
 use Rattle.renewal.proofs.Cutter.{run-ready, run-on, run-less, run-done}
 use borrow.Author.Needs.{needs}
@@ -11,7 +11,7 @@ use Rattle.renewal.proofs.walk.walk.Statement.{statement}
 use Rattle.renewal.proofs.walk.walk.Tie as tie
 
 abbrev Inv-loop : tie.InvT-loop
-Inv-loop text profile write key₀ body start more emoji list₀ at₀ n₀ key list at n = (length list ≡ 192) × Walking (cutBy (lent start more emoji) profile) text write key₀ at n key
+Inv-loop text profile write key₀ body start more emoji list₀ at₀ n₀ key list at n = (length list ≡ 192) × Walking (tokensBy (lent start more emoji) profile) text write key₀ at n key
 
 abbrev μ-loop : tie.MeasureT-loop
 μ-loop text profile write key₀ body start more emoji list₀ at₀ n₀ key list at n = length text - at

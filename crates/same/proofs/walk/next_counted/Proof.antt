@@ -2,14 +2,14 @@ use Prim.Native.Nat.{_-_}
 use native.Mathlib.Omega.{arith}
 use lib.ListN.{length}
 use Rattle.lexer.specs.Unicode.{lent}
-use Rattle.renewal.specs.Steps.{cutBy}
+use Rattle.lexer.specs.Outcome.{tokensBy}
 use Rattle.same.proofs.Ahead.{Seeking, seeking, token-some}
 use borrow.Author.Needs.{needs}
 use Rattle.same.proofs.walk.next_counted.Statement.{statement}
 use Rattle.same.proofs.walk.next_counted.Tie as tie
 
 abbrev Inv-loop : tie.InvT-loop
-Inv-loop text from profile start more emoji at₀ at = Seeking (cutBy (lent start more emoji) profile) text from at
+Inv-loop text from profile start more emoji at₀ at = Seeking (tokensBy (lent start more emoji) profile) text from at
 
 abbrev μ-loop : tie.MeasureT-loop
 μ-loop text from profile start more emoji at₀ at = length text - at

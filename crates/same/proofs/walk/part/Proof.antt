@@ -1,14 +1,14 @@
 use Prim.Native.Nat.{_-_}
 use lib.ListN.{length}
 use Rattle.lexer.specs.Unicode.{lent}
-use Rattle.renewal.specs.Steps.{cutBy}
+use Rattle.lexer.specs.Outcome.{tokensBy}
 use Rattle.same.proofs.Parting.{Parting, parting}
 use borrow.Author.Needs.{needs}
 use Rattle.same.proofs.walk.part.Statement.{statement}
 use Rattle.same.proofs.walk.part.Tie as tie
 
 abbrev Inv-loop : tie.InvT-loop
-Inv-loop old new profile start more emoji a₀ b₀ n₀ a b n = Parting (cutBy (lent start more emoji) profile) old new a b n
+Inv-loop old new profile start more emoji a₀ b₀ n₀ a b n = Parting (tokensBy (lent start more emoji) profile) old new a b n
 
 abbrev μ-loop : tie.MeasureT-loop
 μ-loop old new profile start more emoji a₀ b₀ n₀ a b n = length old - a

@@ -1,6 +1,7 @@
 use mathlib.Core.Path.{refl}
+use Rattle.lists.specs.Values.{valuesFrom}
 use Rattle.unescape.specs.Escapes.{toDigit}
-use Rattle.unescape.specs.Steps.{digitsFrom, digitValues}
+use Rattle.unescape.specs.Steps.{digitValues}
 use borrow.Author.Needs.{needs}
 use Rattle.unescape.proofs.escapes.scan_hex.Statement.{statement}
 use Rattle.unescape.proofs.escapes.scan_hex.Tie as tie
@@ -9,7 +10,7 @@ slice-aggregate-hex-pair : tie.Need-slice-aggregate-hex-pair
 slice-aggregate-hex-pair c = search needs
 
 hex-pair-requires : tie.Need-hex-pair-requires
-unfolding digitValues digitsFrom toDigit
+unfolding digitValues valuesFrom toDigit
 hex-pair-requires c κs = (search needs, refl)
 
 returns : tie.Need-returns

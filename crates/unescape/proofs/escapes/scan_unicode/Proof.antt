@@ -1,6 +1,7 @@
 use mathlib.Core.Path.{refl}
+use Rattle.lists.specs.Values.{valuesFrom}
 use Rattle.unescape.specs.Escapes.{toDigit}
-use Rattle.unescape.specs.Steps.{digitsFrom, digitValues}
+use Rattle.unescape.specs.Steps.{digitValues}
 use Rattle.unicode.proofs.Text.{decoded-fits}
 use Rattle.unescape.proofs.Escaping.{scanning}
 use native.Mathlib.Omega.{arith}
@@ -21,7 +22,7 @@ slice-aggregate-scan-braced : tie.Need-slice-aggregate-scan-braced
 slice-aggregate-scan-braced c = search needs
 
 scan-braced-requires : tie.Need-scan-braced-requires
-unfolding digitValues digitsFrom toDigit
+unfolding digitValues valuesFrom toDigit
 scan-braced-requires c κs = (omega (arith, decoded-fits), refl)
 
 returns-2 : tie.Need-returns-2
