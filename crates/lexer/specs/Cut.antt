@@ -45,18 +45,14 @@ opens c x = eqb c 0x2F && eqb x 0x2A
 abbrev pub closes : ℕ → ℕ → Bool
 closes c x = eqb c 0x2A && eqb x 0x2F
 
--- what two characters do at depth d: they open a comment, they close one (and where that brings the depth to nought it is done), or the
--- scan goes on behind the first of them
-abbrev turn : Bool → Bool → ℕ → List ℕ → (ℕ → Bool × List ℕ) → (Unit {0} → Bool × List ℕ) → Bool × List ℕ
-turn true b d t past next = past (suc d)
-turn false true d t past next = cond (leb d 1) (true, t) (past (d - 1))
-turn false false d t past next = next tt
-
 -- inside a block comment, at depth d: whether it is closed, and what is left
 unfoldable pub block : ℕ → List ℕ → Bool × List ℕ
 block d [] = (false, [])
 block d (c ∷ []) = (false, [])
-block d (c ∷ x ∷ t) = turn (opens c x) (closes c x) d t (λ e. block e t) (λ u. block d (x ∷ t))
+block d (c ∷ x ∷ t) =
+    cond (opens c x) (block (suc d) t)
+    (cond (closes c x) (cond (leb d 1) (true, t) (block (d - 1) t))
+    (block d (x ∷ t)))
 
 -- behind a slash: the kind, and what is left
 unfoldable pub slash : List ℕ → ℕ × List ℕ
@@ -153,15 +149,13 @@ before c q = record { closed = q .closed; body = c ∷ q .body; rest = q .rest }
 abbrev pub escapes : ℕ → ℕ → Bool
 escapes c x = eqb c 0x5C && (eqb x 0x5C || eqb x 0x22)
 
-abbrev step : Bool → Bool → ℕ → ℕ → List ℕ → (Unit {0} → Quote) → (Unit {0} → Quote) → Quote
-step true b c x t past next = record { closed = true; body = []; rest = x ∷ t }
-step false true c x t past next = before c (before x (past tt))
-step false false c x t past next = before c (next tt)
-
 unfoldable pub quoted : List ℕ → Quote
 quoted [] = record { closed = false; body = []; rest = [] }
 quoted (c ∷ []) = record { closed = eqb c 0x22; body = cond (eqb c 0x22) [] (c ∷ []); rest = [] }
-quoted (c ∷ x ∷ t) = step (eqb c 0x22) (escapes c x) c x t (λ u. quoted t) (λ u. quoted (x ∷ t))
+quoted (c ∷ x ∷ t) =
+    cond (eqb c 0x22) (record { closed = true; body = []; rest = x ∷ t })
+    (cond (escapes c x) (before c (before x (quoted t)))
+    (before c (quoted (x ∷ t))))
 
 -- a character of a bit string
 abbrev pub isBit : ℕ → Bool

@@ -83,13 +83,13 @@ keyed-done {s} {key} {key′} {profile} c z r =
     record { answer = rw h (r .answer); bytes = rw (h, ← r .answer .number-is) (r .bytes) }
 
 -- ---- what a call that is done has written: the key of an accepted text
-done-accepted : {s : List ℕ} {profile : ℕ} {key : List ℕ} {a : ℕ} {key′ : List ℕ} → Keyed s profile key done a key′ → checkCut s profile .0 ≡ done
+pub done-accepted : {s : List ℕ} {profile : ℕ} {key : List ℕ} {a : ℕ} {key′ : List ℕ} → Keyed s profile key done a key′ → checkCut s profile .0 ≡ done
 unfolding answerOf
 done-accepted {s} {profile} p =
     by-test (eqb (checkCut s profile .0) done) (λ e. eqb-true (checkCut s profile .0) done e)
     (λ e. let h = p .answer .number-is in sym (rw e at h))
 
-done-written : {s : List ℕ} {profile : ℕ} {key : List ℕ} {a : ℕ} {key′ : List ℕ} → Keyed s profile key done a key′ → take a key′ ≡ keyOfText profile s
+pub done-written : {s : List ℕ} {profile : ℕ} {key : List ℕ} {a : ℕ} {key′ : List ℕ} → Keyed s profile key done a key′ → take a key′ ≡ keyOfText profile s
 unfolding answerOf keyed
 done-written {s} {profile} {key} {a} p =
     let c = eq-eqb (checkCut s profile .0) done (done-accepted p) in
