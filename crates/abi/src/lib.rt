@@ -10,11 +10,11 @@ ghost use Rattle.ucd.specs.Properties.{isXidStart, isXidContinue, isEmoji, isWh
 ghost use Rattle.text.specs.Answer.{Answered, checkText, checkCut};
 ghost use Rattle.letters.specs.Chars.{isWhitespace, isIdStart, isIdContinue};
 ghost use Rattle.lexer.specs.Unicode.{lent};
-ghost use Rattle.lexer.specs.Outcome.{Listed, CutRun, TokenAt, identified};
+ghost use Rattle.lexer.specs.Promises.{Listed, CutRun, TokenAt, identified};
 ghost use Rattle.modes.specs.Modes.{testedMode, isSingle, inDoubleQuotes, charactersShouldBeAscii, isUnicodeEscapeDisallowed, hasPrefix, isRaw};
 ghost use Rattle.modes.specs.Errors.{fatal};
-ghost use Rattle.unescape.specs.Outcome.{Unescaped, part, single};
-ghost use Rattle.renewal.specs.Outcome.{Keyed};
+ghost use Rattle.unescape.specs.Promises.{Unescaped, part, single};
+ghost use Rattle.renewal.specs.Promises.{Keyed};
 ghost use Rattle.rows.specs.Rows.{Rowed, Bridged};
 ghost use Rattle.same.specs.Compare.{Compared, compared};
 ghost use Rattle.same.specs.Places.{Placed, placeOf};

@@ -8,9 +8,10 @@ use mathlib.Core.List.{List, tail}
 use lib.ListN.{length}
 use lib.Dec.{eqb}
 use borrow.Author.Tests.{eq-eqb, ne-eqb, not-true, not-false}
-use Rattle.unicode.specs.Text.{Place, Ate, left, skip}
+use Rattle.unicode.specs.Steps.{Place, Ate}
+use Rattle.unicode.specs.Text.{left, skip}
 use Rattle.unicode.proofs.Text.{from-place}
-use Rattle.lexer.specs.Cut.{peek, isDigit, isHexDigit, isE, orUnderscore, met, digits, exponent, exponentOf, point, fraction, based, number, isUnit, identifier, suffix}
+use Rattle.lexer.specs.Cut.{peek, isDigit, isHexDigit, isE, orUnderscore, met, digits, exponent, exponentOf, point, fraction, based, number, isUnit, identifier, numberSuffix}
 use Rattle.lexer.specs.Kinds.{int, float}
 use Rattle.lexer.specs.Unicode.{startIn, moreIn, lent}
 use Rattle.lexer.specs.Steps.{Parted}
@@ -183,12 +184,12 @@ module _ (start more emoji s : List ℕ) (at : ℕ) {x : ℕ} {b : Bool} (f : x 
       rw h (from-place p q (ap (skip (moreIn more)) (p .there)))
 
 module _ (start more emoji s : List ℕ) (at : ℕ) {b : Bool} (o : b ≡ isUnit (peek (left s at)) (peek (tail (left s at)))) where
-  pub suffix-unit : b ≡ true → at ≤ length s → Place s at at (suffix (lent start more emoji) (left s at))
-  unfolding suffix
+  pub suffix-unit : b ≡ true → at ≤ length s → Place s at at (numberSuffix (lent start more emoji) (left s at))
+  unfolding numberSuffix
   suffix-unit t l = record { after = omega arith; within = l; there = rw (sym o ∙ t) }
 
-  pub suffix-eaten : {end : ℕ} → b ≡ false → Place s at end (identifier (lent start more emoji) (left s at)) → Place s at end (suffix (lent start more emoji) (left s at))
-  unfolding suffix
+  pub suffix-eaten : {end : ℕ} → b ≡ false → Place s at end (identifier (lent start more emoji) (left s at)) → Place s at end (numberSuffix (lent start more emoji) (left s at))
+  unfolding numberSuffix
   suffix-eaten t p = rw (sym o ∙ t) p
 
 pub unit-at : {s : List ℕ} {at a x y : ℕ} {r : Bool} → x ≡ peek (left s at) → Place s at a (tail (left s at)) → y ≡ peek (left s a) → r ≡ isUnit x y → r ≡ isUnit (peek (left s at)) (peek (tail (left s at)))

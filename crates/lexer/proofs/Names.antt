@@ -11,7 +11,8 @@ use lib.ListN.{length, drop, getD, drop-of-length-le}
 use lib.Seq.{drop-cons, drop-drop}
 use lib.Dec.{leb}
 use borrow.Author.Tests.{eq-eqb, ne-eqb, lt-leb}
-use Rattle.unicode.specs.Text.{Decoded, Place, Ate, left, skip}
+use Rattle.unicode.specs.Text.{Decoded, left, skip}
+use Rattle.unicode.specs.Steps.{Place, Ate}
 use Rattle.unicode.proofs.Text.{decoded-point, left-end, from-place, skip-nil, skip-stop}
 use Rattle.unicode.proofs.Ascii.{ascii-decoded}
 use Rattle.lexer.specs.Cut.{peek, notLf, isDigit, orUnderscore, met, digits, agree, pragmaWord, pound, wideEmoji, goesOn, name, word, annotated, hardware}

@@ -9,7 +9,7 @@ use Rattle.lists.specs.All.{all}
 use Rattle.lists.specs.Cut.{cut}
 use Rattle.lists.specs.Eat.{eat}
 use Rattle.unicode.specs.Ranges.{_to_, inRange}
-use Rattle.unicode.specs.Text.{bytes, skip}
+use Rattle.unicode.specs.Text.{byteLength, skip}
 use Rattle.letters.specs.Chars.{isWhitespace}
 use Rattle.lexer.specs.Kinds.{eof, lineComment, blockComment, unclosedComment, whitespaceKind, ident, hardwareIdent, invalidIdent, pragma, annotation, atSign, dollar, slashMark, unknown, marks, markIn, int, float, str, bitStr}
 
@@ -182,22 +182,22 @@ quoteKind q =
 
 -- ---- a token: its kind, what is left where its suffix starts (of a literal with none, behind it; of all else, from its own start on), and what
 -- is left behind it
-pub record Token : Type 0 where
+pub record Piece : Type 0 where
   pub kind : ℕ
-  pub suff : List ℕ
+  pub fromSuffix : List ℕ
   pub rest : List ℕ
 
-plain : ℕ → List ℕ → ℕ × List ℕ → Token
-plain c t r = record { kind = r .0; suff = c ∷ t; rest = r .1 }
+plain : ℕ → List ℕ → ℕ × List ℕ → Piece
+plain c t r = record { kind = r .0; fromSuffix = c ∷ t; rest = r .1 }
 
-literal : ℕ → List ℕ → List ℕ → Token
-literal k m r = record { kind = k; suff = m; rest = r }
+literal : ℕ → List ℕ → List ℕ → Piece
+literal k m r = record { kind = k; fromSuffix = m; rest = r }
 
 -- a token record: kind, length, suffix start
-pub record Tok : Type 0 where
+pub record Token : Type 0 where
   pub kind : ℕ
   pub len : ℕ
-  pub suff : ℕ
+  pub suffix : ℕ
 
 module _ (u : Letters) where
   abbrev pub wideEmoji : ℕ → Bool
@@ -221,8 +221,8 @@ module _ (u : Letters) where
   unfoldable pub identifier : List ℕ → List ℕ
   identifier t = cond (u .start (peek t)) (skip (u .more) (tail t)) t
 
-  unfoldable pub suffix : List ℕ → List ℕ
-  suffix t = cond (isUnit (peek t) (peek (tail t))) t (identifier t)
+  unfoldable pub numberSuffix : List ℕ → List ℕ
+  numberSuffix t = cond (isUnit (peek t) (peek (tail t))) t (identifier t)
 
   -- behind @
   unfoldable pub annotated : List ℕ → ℕ × List ℕ
@@ -235,7 +235,7 @@ module _ (u : Letters) where
       (let d = digits isDigit t in (cond (d .0) hardwareIdent dollar, d .1))
 
   -- ---- the token that c ∷ t begins with, by its first character, in the order of the tests
-  unfoldable pub advance : ℕ → ℕ → List ℕ → Token
+  unfoldable pub advance : ℕ → ℕ → List ℕ → Piece
   unfolding plain literal
   advance profile c t =
       let n = number c t in
@@ -244,7 +244,7 @@ module _ (u : Letters) where
       cond (eqb c 0x2F) (plain c t (slash t))
       (cond (isWhitespace c) (plain c t (whitespaceKind, skip isWhitespace t))
       (cond (u .start c) (plain c t (word profile c t))
-      (cond (isDigit c) (literal (n .0) (n .1) (suffix (n .1)))
+      (cond (isDigit c) (literal (n .0) (n .1) (numberSuffix (n .1)))
       (cond (eqb c 0x23) (plain c t (pound t))
       (cond (eqb c 0x40) (plain c t (annotated t))
       (cond (eqb c 0x24) (plain c t (hardware t))
@@ -254,25 +254,25 @@ module _ (u : Letters) where
       (plain c t (unknown, t)))))))))))
 
   -- of no text there is no token
-  unfoldable pub token : ℕ → List ℕ → Token
-  token profile [] = record { kind = eof; suff = []; rest = [] }
-  token profile (c ∷ t) = advance profile c t
+  unfoldable pub advanceToken : ℕ → List ℕ → Piece
+  advanceToken profile [] = record { kind = eof; fromSuffix = []; rest = [] }
+  advanceToken profile (c ∷ t) = advance profile c t
 
   -- ---- the whole text: for each token its kind, its length in bytes, and the bytes before its suffix
-  unfoldable pub piece : ℕ → ℕ → List ℕ → Tok × List ℕ
-  piece profile c t =
+  unfoldable pub nextToken : ℕ → ℕ → List ℕ → Token × List ℕ
+  nextToken profile c t =
       let a = advance profile c t in
-      (record { kind = a .kind; len = bytes (c ∷ t) - bytes (a .rest); suff = bytes (c ∷ t) - bytes (a .suff) }, a .rest)
+      (record { kind = a .kind; len = byteLength (c ∷ t) - byteLength (a .rest); suffix = byteLength (c ∷ t) - byteLength (a .fromSuffix) }, a .rest)
 
-  unfoldable pub tokens : ℕ → List ℕ → List Tok
-  tokens profile = cut (piece profile)
+  unfoldable pub tokens : ℕ → List ℕ → List Token
+  tokens profile = cut (nextToken profile)
 
 -- three words for each token
-unfoldable pub flat : List Tok → List ℕ
+unfoldable pub flat : List Token → List ℕ
 flat [] = []
-flat (t ∷ ts) = t .kind ∷ t .len ∷ t .suff ∷ flat ts
+flat (t ∷ ts) = t .kind ∷ t .len ∷ t .suffix ∷ flat ts
 
 -- the lengths of tokens, added up
-abbrev pub total : List Tok → ℕ
+abbrev pub total : List Token → ℕ
 total [] = 0
 total (t ∷ ts) = t .len + total ts

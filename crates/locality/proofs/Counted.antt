@@ -12,7 +12,7 @@ use Rattle.lists.proofs.Bools.{by-test, on-cond}
 use Rattle.unicode.specs.Text.{skip}
 use Rattle.letters.specs.Chars.{isWhitespace}
 use Rattle.lexer.specs.Kinds.{marks, markIn, int, float, bitStr, str, whitespaceKind}
-use Rattle.lexer.specs.Cut.{Letters, Token, Quote, peek, isDigit, isE, block, slash, digits, exponent, exponentOf, point, fraction, based, number, quoted, quoteKind, isBit, withoutLf, twice, pragmaWord, agree, pound, wideEmoji, name, word, annotated, hardware, advance}
+use Rattle.lexer.specs.Cut.{Letters, Piece, Quote, peek, isDigit, isE, block, slash, digits, exponent, exponentOf, point, fraction, based, number, quoted, quoteKind, isBit, withoutLf, twice, pragmaWord, agree, pound, wideEmoji, name, word, annotated, hardware, advance}
 use Rattle.lexer.proofs.Shapes.{mark-has}
 use Rattle.tokens.specs.Members.{isCounted}
 
@@ -92,7 +92,7 @@ module _ (u : Letters) where
   pub others-count : (profile c : ℕ) (t : List ℕ) → eqb c 0x2F ≡ false → isWhitespace c ≡ false → isCounted (advance u profile c t .kind) ≡ true
   unfolding advance isCounted
   others-count profile c t h k =
-      let P : Token → Type 0 = λ a. isCounted (a .kind) ≡ true in
+      let P : Piece → Type 0 = λ a. isCounted (a .kind) ≡ true in
       let m = markIn marks c in
       rw (h, k)
       (on-cond P (u .start c) (word-counts profile c t)

@@ -14,11 +14,11 @@ use Rattle.lists.specs.Eat.{eat}
 use Rattle.lists.proofs.Bools.{by-test, both, and-false, or-true, on-cond}
 use Rattle.lists.proofs.Eat.{eat-nil, eat-more, eat-stop}
 use Rattle.unicode.specs.Utf8.{width}
-use Rattle.unicode.specs.Text.{bytes, skip, keep}
+use Rattle.unicode.specs.Text.{byteLength, skip, keep}
 use Rattle.unicode.proofs.Text.{skip-nil, skip-more, skip-stop}
 use Rattle.letters.specs.Chars.{isWhitespace}
 use Rattle.lexer.specs.Kinds.{blockComment, unclosedComment, whitespaceKind, ident, hardwareIdent, invalidIdent, pragma, atSign, dollar, slashMark, unknown, marks, markIn, int, float, str, bitStr}
-use Rattle.lexer.specs.Cut.{Letters, Token, Tok, peek, notLf, isDigit, isE, orUnderscore, met, opens, closes, block, slash, digits, exponent, exponentOf, point, fraction, based, number, isUnit, escapes, quoted, quoteKind, isBit, withoutLf, twice, pragmaWord, agree, pound, Quote, wideEmoji, goesOn, name, word, annotated, hardware, identifier, suffix, advance, piece, tokens}
+use Rattle.lexer.specs.Cut.{Letters, Piece, Token, peek, notLf, isDigit, isE, orUnderscore, met, opens, closes, block, slash, digits, exponent, exponentOf, point, fraction, based, number, isUnit, escapes, quoted, quoteKind, isBit, withoutLf, twice, pragmaWord, agree, pound, Quote, wideEmoji, goesOn, name, word, annotated, hardware, identifier, numberSuffix, advance, nextToken, tokens}
 use Rattle.locality.specs.Machine.{Act, eats, halts, run, LooksAtTwo, cutBy}
 use Rattle.locality.specs.Phases as Phases
 use Rattle.locality.specs.Phases.{Seen, bits, broken, other, seeing, seenKind, Line, ofComment, ofPragma, ofAnnotation, lineKind, Phase, behindSlash, line, inside, into, closing, closed, space, emojiName, spelling, behindAt, behindDollar, wire, zeroFirst, figures, pointed, decimals, behindE, power, quote, quoteClosed, suffixed, single, nextIs, letter, figure, suffixActs, numberEnds, fractionActs, act, first, Usual}
@@ -59,8 +59,8 @@ pub no-letter : (c n : ℕ) → c < 0x61 → eqb c (letter n) ≡ false
 no-letter c n h = ne-eqb c (letter n) (λ e. omega (arith, letter-small n))
 
 -- a plain token, whose suffix would start at m
-abbrev tok : List ℕ → ℕ × List ℕ → Token
-tok m r = record { kind = r .0; suff = m; rest = r .1 }
+abbrev tok : List ℕ → ℕ × List ℕ → Piece
+tok m r = record { kind = r .0; fromSuffix = m; rest = r .1 }
 
 -- ---- what is seen of a quoted text, to its end
 unfoldable sees : Seen → List ℕ → Seen
@@ -136,7 +136,7 @@ unfolding quoteKind
 kind-seen q = by-test (q .closed) (λ h. rw h (kind-closed (q .body) false false)) (λ h. rw h (kind-open (q .body) false false))
 
 module _ (u : Letters) where
-  abbrev go : Phase → List ℕ → List ℕ → Token
+  abbrev go : Phase → List ℕ → List ℕ → Piece
   go = walk (act u)
 
   -- the states that eat while a test holds
@@ -240,8 +240,8 @@ module _ (u : Letters) where
   unfolding identifier
   identifier-nil = by-test (u .start 0) (λ h. rw (h, skip-nil (u .more))) (λ h. rw h)
 
-  abbrev ending : ℕ → List ℕ → List ℕ → Token
-  ending k m r = record { kind = k; suff = m; rest = r }
+  abbrev ending : ℕ → List ℕ → List ℕ → Piece
+  ending k m r = record { kind = k; fromSuffix = m; rest = r }
 
   suffix-walk : (q : Phase) (k : ℕ) (m l : List ℕ) → act u q l ≡ suffixActs u k l → go q m l ≡ ending k l (identifier u l)
   unfolding act identifier
@@ -256,11 +256,11 @@ module _ (u : Letters) where
       rw h (walk-halts (act u) m (c ∷ t) a))
 
   -- a number of a kind, and what is left where its suffix starts
-  abbrev lit : ℕ × List ℕ → Token
-  lit x = ending (x .0) (x .1) (suffix u (x .1))
+  abbrev lit : ℕ × List ℕ → Piece
+  lit x = ending (x .0) (x .1) (numberSuffix u (x .1))
 
   ends-walk : (q : Phase) (k : ℕ) (m l : List ℕ) → act u q l ≡ numberEnds u k l → go q m l ≡ lit (k, l)
-  unfolding suffix
+  unfolding numberSuffix
   ends-walk q k m l e =
       by-test (isUnit (peek l) (peek (tail l)))
       (λ h.
@@ -435,7 +435,7 @@ module _ (u : Letters) where
       rw h (walk-same (act u) m (c ∷ t) a ∙ wire-walk false m (c ∷ t)))
 
   -- ---- quoted texts
-  abbrev quoteEnd : Seen → Quote → Token
+  abbrev quoteEnd : Seen → Quote → Piece
   quoteEnd s q = ending (seenKind (q .closed) (sees s (q .body))) (q .rest) (cond (q .closed) (identifier u (q .rest)) (q .rest))
 
   shut-walk : (s : Seen) (c : ℕ) (m t : List ℕ) → eqb c 0x22 ≡ true → go (quote false s) m (c ∷ t) ≡ ending (seenKind true s) t (identifier u t)
@@ -548,7 +548,7 @@ module _ (u : Letters) where
       spell false 0 (tail pragmaWord) m refl (λ h. absurd (false≢true h)) (spell-on false (λ h. absurd (false≢true h)) m) l
 
   -- ---- THE MACHINE CUTS AS THE RULES SAY
-  choose : (q p : Phase) (b : Bool) (m t : List ℕ) {v w : Token} → go q m t ≡ v → go p m t ≡ w → go (cond b q p) m t ≡ cond b v w
+  choose : (q p : Phase) (b : Bool) (m t : List ℕ) {v w : Piece} → go q m t ≡ v → go p m t ≡ w → go (cond b q p) m t ≡ cond b v w
   choose q p true m t e f = e
   choose q p false m t e f = f
 
@@ -579,15 +579,15 @@ module _ (u : Letters) where
         (choose _ _ (wideEmoji u c) l t (emoji-walk l t) (single-walk unknown l t))))))))))
 
     -- each token, with its counts
-    pub piece-run : (c : ℕ) (t : List ℕ) → run (act u) (first u profile c) (width c) 0 t ≡ piece u profile c t
-    unfolding piece bytes
-    piece-run c t =
-        run-walk (act u) t (first u profile c) (width c) 0 (bytes (c ∷ t)) (c ∷ t) refl (omega arith) ∙ ap (countedFrom (act u) (bytes (c ∷ t))) (advance-walk c t)
+    pub next-run : (c : ℕ) (t : List ℕ) → run (act u) (first u profile c) (width c) 0 t ≡ nextToken u profile c t
+    unfolding nextToken byteLength
+    next-run c t =
+        run-walk (act u) t (first u profile c) (width c) 0 (byteLength (c ∷ t)) (c ∷ t) refl (omega arith) ∙ ap (countedFrom (act u) (byteLength (c ∷ t))) (advance-walk c t)
 
     -- and the tokens of a text
     pub machine-tokens : (l : List ℕ) → cutBy (act u) (first u profile) l ≡ tokens u profile l
     unfolding cutBy tokens
-    machine-tokens l = ap (λ (f : ℕ → List ℕ → Tok × List ℕ). cut f l) (fun-ext (λ c. fun-ext (λ t. piece-run c t)))
+    machine-tokens l = ap (λ (f : ℕ → List ℕ → Token × List ℕ). cut f l) (fun-ext (λ c. fun-ext (λ t. next-run c t)))
 
   -- ---- it looks at two characters at most
   pub two : LooksAtTwo (act u)

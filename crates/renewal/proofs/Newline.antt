@@ -10,13 +10,13 @@ use borrow.Author.Tests.{lt-ltb, le-ltb, eq-eqb}
 use Rattle.unicode.specs.Utf8.{WellFormed}
 use Rattle.text.specs.Answer.{done, longest, checkCut}
 use Rattle.text.proofs.Checks.{cut-accepted, not-refused}
-use Rattle.locality.specs.Counted.{Run, withNewline}
+use Rattle.locality.specs.Newline.{Run, withNewline}
 use Rattle.locality.proofs.Clause.{newline-shorter, newline-clause}
 use Rattle.tokens.specs.Members.{membersOf}
 use Rattle.lists.proofs.Bools.{on-cond}
 use lib.Dec.{ltb}
 use Rattle.renewal.specs.Key.{keyOf, keyOfText}
-use Rattle.renewal.specs.Outcome.{answerOf, Keyed}
+use Rattle.renewal.specs.Promises.{answerOf, Keyed}
 use Rattle.renewal.proofs.Whole.{done-accepted, done-written}
 
 -- where the counted tokens are the same, the keys are: each corollary of `locality` on what may change speaks of the key
