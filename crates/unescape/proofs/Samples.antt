@@ -1,4 +1,4 @@
--- Worked examples, computed: the scope's two starred ones first; and programs that the promises rule out.
+-- Worked examples, computed; and programs that the promises rule out.
 -- Assumes nothing.
 use Prim.Native.Nat.{ℕ}
 use native.Mathlib.Omega.{arith}
