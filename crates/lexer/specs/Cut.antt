@@ -4,7 +4,7 @@ use mathlib.Core.Bool.{Bool, true, false, not, cond, _&&_, _||_}
 use mathlib.Core.List.{List, [], _∷_, tail}
 use Prim.Native.Nat.{ℕ, _+_, suc, _-_}
 use lib.Dec.{eqb, leb}
-use lib.ListN.{drop}
+use lib.ListN.{length, drop}
 use Rattle.lists.specs.All.{all}
 use Rattle.lists.specs.Cut.{cut}
 use Rattle.lists.specs.Eat.{eat}
@@ -80,7 +80,7 @@ agree (w ∷ ws) (c ∷ t) = cond (eqb c w) (suc (agree ws t)) 0
 unfoldable pub pound : List ℕ → ℕ × List ℕ
 pound t =
     let n = agree pragmaWord t in
-    cond (eqb n 6) (pragma, skip notLf t) (invalidIdent, drop n t)
+    cond (eqb n (length pragmaWord)) (pragma, skip notLf t) (invalidIdent, drop n t)
 
 -- ---- numbers
 -- digits and underscores are eaten: whether there was a digit, and what is left
@@ -221,7 +221,7 @@ module _ (u : Letters) where
 
   -- behind c, which begins an identifier; under profile 1 the bytes pragma make a Pragma of the line
   unfoldable pub word : ℕ → ℕ → List ℕ → ℕ × List ℕ
-  word profile c t = cond (eqb profile 1 && eqb (agree pragmaWord (c ∷ t)) 6) (pragma, skip notLf t) (name t)
+  word profile c t = cond (eqb profile 1 && eqb (agree pragmaWord (c ∷ t)) (length pragmaWord)) (pragma, skip notLf t) (name t)
 
   -- an identifier eaten as a suffix; a unit is no suffix of a number
   unfoldable pub identifier : List ℕ → List ℕ

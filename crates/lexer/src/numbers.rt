@@ -14,6 +14,7 @@ use crate::cursor::Cursor;
 use crate::cursor::Digits;
 use crate::cursor::is_digit;
 use crate::cursor::is_id_start_in;
+use crate::kinds;
 
 fn is_sign(c: u32) -> bool
     ensures { λ r. ⌜ r ≡ (eqb c 0x2D || eqb c 0x2B) ⌝ }
@@ -51,12 +52,12 @@ fn exponent_of(text: &[u8], from: Cursor, base: u32) -> Part
     let e = eat_float_exponent(text, from);
     if e.any {
         return Part {
-            kind: 48 + 2 * base,
+            kind: kinds::FLOAT + 2 * base,
             at: e.at,
         };
     }
     Part {
-        kind: 49 + 2 * base,
+        kind: kinds::FLOAT_EMPTY_EXPONENT + 2 * base,
         at: e.at,
     }
 }
@@ -68,7 +69,7 @@ fn point(text: &[u8], from: Cursor, base: u32) -> Part
 {
     if !is_digit(from.first(text)) {
         return Part {
-            kind: 48 + 2 * base,
+            kind: kinds::FLOAT + 2 * base,
             at: from.at,
         };
     }
@@ -78,7 +79,7 @@ fn point(text: &[u8], from: Cursor, base: u32) -> Part
         return exponent_of(text, end.bump(text), base);
     }
     Part {
-        kind: 48 + 2 * base,
+        kind: kinds::FLOAT + 2 * base,
         at: d.at,
     }
 }
@@ -96,7 +97,7 @@ fn fraction(text: &[u8], from: Cursor, base: u32) -> Part
         return exponent_of(text, from.bump(text), base);
     }
     Part {
-        kind: 40 + 2 * base,
+        kind: kinds::INT + 2 * base,
         at: from.at,
     }
 }
@@ -110,7 +111,7 @@ fn based(text: &[u8], d: Digits, base: u32) -> Part
         return fraction(text, Cursor { at: d.at }, base);
     }
     Part {
-        kind: 41 + 2 * base,
+        kind: kinds::INT_EMPTY + 2 * base,
         at: d.at,
     }
 }
@@ -123,17 +124,25 @@ pub fn number(text: &[u8], from: Cursor, first_digit: u32) -> Part
     if first_digit == 0x30 {
         let x = from.first(text);
         if x == 0x62 {
-            return based(text, from.bump(text).eat_decimal_digits(text), 0);
+            return based(
+                text,
+                from.bump(text).eat_decimal_digits(text),
+                kinds::BINARY,
+            );
         }
         if x == 0x6F {
-            return based(text, from.bump(text).eat_decimal_digits(text), 1);
+            return based(text, from.bump(text).eat_decimal_digits(text), kinds::OCTAL);
         }
         if x == 0x78 {
-            return based(text, from.bump(text).eat_hexadecimal_digits(text), 3);
+            return based(
+                text,
+                from.bump(text).eat_hexadecimal_digits(text),
+                kinds::HEXADECIMAL,
+            );
         }
     }
     let d = from.eat_decimal_digits(text);
-    fraction(text, Cursor { at: d.at }, 2)
+    fraction(text, Cursor { at: d.at }, kinds::DECIMAL)
 }
 
 fn is_unit(x: u32, y: u32) -> bool

@@ -9,6 +9,7 @@ ghost use Rattle.lexer.specs.Kinds.{str, bitStr};
 ghost use Rattle.lexer.specs.Steps.{Quoted, Added, bitsBy};
 use crate::cursor::Cursor;
 use crate::cursor::byte;
+use crate::kinds;
 
 pub struct Quote {
     pub closed: bool,
@@ -107,19 +108,19 @@ fn quote_kind(closed: bool, bits: bool, twice: bool) -> u32
     if bits {
         if twice {
             if closed {
-                return 61;
+                return kinds::BIT_STR_CONSECUTIVE_TERMINATED;
             }
-            return 60;
+            return kinds::BIT_STR_CONSECUTIVE;
         }
         if closed {
-            return 59;
+            return kinds::BIT_STR_TERMINATED;
         }
-        return 58;
+        return kinds::BIT_STR;
     }
     if closed {
-        return 57;
+        return kinds::STR_TERMINATED;
     }
-    56
+    kinds::STR
 }
 
 fn is_escape(text: &[u8], at: usize) -> bool

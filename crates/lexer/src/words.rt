@@ -15,6 +15,9 @@ use crate::cursor::is_wide_emoji;
 use crate::kinds;
 use unicode::utf8::decode;
 
+// The word that makes a Pragma of a line.
+const PRAGMA_WORD: [u8; 6] = *b"pragma";
+
 // How many characters of the text agree with a word, and the place behind them.
 struct Agreement {
     count: usize,
@@ -47,8 +50,8 @@ pub fn pound(text: &[u8], from: Cursor) -> Part
     requires { ⌜ from .at ≤ length (now text) ⌝ }
     ensures { λ r. ⌜ Parted pound (now (text .entry)) (from .at) (r .kind) (r .at) ⌝ }
 {
-    let a = agree_with(text, from, b"pragma");
-    if a.count == 6 {
+    let a = agree_with(text, from, &PRAGMA_WORD);
+    if a.count == PRAGMA_WORD.len() {
         let end = from.eat_line(text);
         return Part {
             kind: kinds::PRAGMA,
@@ -115,8 +118,8 @@ pub fn ident_or_unknown_prefix(
     ensures { λ r. ⌜ Parted (word (lent (now (start .entry)) (now (more .entry)) (now (emoji .entry))) profile c) (now (text .entry)) (from .at) (r .kind) (r .at) ⌝ }
 {
     if profile == 1 {
-        let a = agree_with(text, own, b"pragma");
-        if a.count == 6 {
+        let a = agree_with(text, own, &PRAGMA_WORD);
+        if a.count == PRAGMA_WORD.len() {
             let end = from.eat_line(text);
             return Part {
                 kind: kinds::PRAGMA,
