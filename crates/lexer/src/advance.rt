@@ -80,18 +80,19 @@ fn string(
     ensures { λ r. ⌜ Cuts (lent (now (start .entry)) (now (more .entry)) (now (emoji .entry))) profile (now (text .entry)) at (r .kind) (r .suffix) (r .end) ⌝ }
 {
     let q = double_quoted_string(text, next);
+    let cursor = q.cursor;
     if q.closed {
-        let end = eat_literal_suffix(text, Cursor { at: q.at }, start, more, emoji);
+        let end = eat_literal_suffix(text, cursor, start, more, emoji);
         return Piece {
             kind: q.kind,
-            suffix: q.at,
+            suffix: cursor.at,
             end: end.at,
         };
     }
     Piece {
         kind: q.kind,
-        suffix: q.at,
-        end: q.at,
+        suffix: cursor.at,
+        end: cursor.at,
     }
 }
 
@@ -110,18 +111,18 @@ fn numeral(
     ensures { λ r. ⌜ Cuts (lent (now (start .entry)) (now (more .entry)) (now (emoji .entry))) profile (now (text .entry)) at (r .kind) (r .suffix) (r .end) ⌝ }
 {
     let n = number(text, next, c);
-    let behind = Cursor { at: n.at };
-    if has_timing_or_imaginary_suffix(text, behind) {
+    let cursor = n.cursor;
+    if has_timing_or_imaginary_suffix(text, cursor) {
         return Piece {
             kind: n.kind,
-            suffix: n.at,
-            end: n.at,
+            suffix: cursor.at,
+            end: cursor.at,
         };
     }
-    let end = eat_literal_suffix(text, behind, start, more, emoji);
+    let end = eat_literal_suffix(text, cursor, start, more, emoji);
     Piece {
         kind: n.kind,
-        suffix: n.at,
+        suffix: cursor.at,
         end: end.at,
     }
 }
@@ -186,7 +187,7 @@ fn sigil(
             return Piece {
                 kind: p.kind,
                 suffix: at,
-                end: p.at,
+                end: p.cursor.at,
             };
         }
         0x24 => {
@@ -194,7 +195,7 @@ fn sigil(
             return Piece {
                 kind: p.kind,
                 suffix: at,
-                end: p.at,
+                end: p.cursor.at,
             };
         }
         _ => {
@@ -225,7 +226,7 @@ fn other(
         return Piece {
             kind: p.kind,
             suffix: at,
-            end: p.at,
+            end: p.cursor.at,
         };
     }
     sigil(text, at, c, next, profile, start, more, emoji)
@@ -251,7 +252,7 @@ fn named(
         return Piece {
             kind: p.kind,
             suffix: at,
-            end: p.at,
+            end: p.cursor.at,
         };
     }
     other(text, at, c, next, profile, start, more, emoji)
@@ -276,7 +277,7 @@ fn advance(
         return Piece {
             kind: p.kind,
             suffix: at,
-            end: p.at,
+            end: p.cursor.at,
         };
     }
     if is_whitespace(d.code) {

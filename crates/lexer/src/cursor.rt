@@ -21,10 +21,10 @@ pub struct Cursor {
     pub at: usize,
 }
 
-// Whether a digit was eaten, and where the digits end.
+// Whether a digit was eaten, and the cursor behind the digits.
 pub struct Digits {
     pub any: bool,
-    pub at: usize,
+    pub cursor: Cursor,
 }
 
 // The byte at a place, or 0 past the end.
@@ -217,36 +217,48 @@ impl Cursor {
 
     pub fn eat_decimal_digits(self, text: &[u8]) -> Digits
         requires { ⌜ self .at ≤ length (now text) ⌝ }
-        ensures { λ r. ⌜ Ate (orUnderscore isDigit) (met isDigit) (now (text .entry)) (self .at) false (r .at) (r .any) ⌝ }
+        ensures { λ r. ⌜ Ate (orUnderscore isDigit) (met isDigit) (now (text .entry)) (self .at) false (r .cursor .at) (r .any) ⌝ }
     {
         let mut at = self.at;
         let mut any = false;
         while at < text.len() {
             let b = byte(text, at);
             if !is_digit_or_underscore(b) {
-                return Digits { any, at };
+                return Digits {
+                    any,
+                    cursor: Cursor { at },
+                };
             }
             any = met_digit(any, b);
             at = at + 1;
         }
-        Digits { any, at }
+        Digits {
+            any,
+            cursor: Cursor { at },
+        }
     }
 
     pub fn eat_hexadecimal_digits(self, text: &[u8]) -> Digits
         requires { ⌜ self .at ≤ length (now text) ⌝ }
-        ensures { λ r. ⌜ Ate (orUnderscore isHexDigit) (met isHexDigit) (now (text .entry)) (self .at) false (r .at) (r .any) ⌝ }
+        ensures { λ r. ⌜ Ate (orUnderscore isHexDigit) (met isHexDigit) (now (text .entry)) (self .at) false (r .cursor .at) (r .any) ⌝ }
     {
         let mut at = self.at;
         let mut any = false;
         while at < text.len() {
             let b = byte(text, at);
             if !is_hex_or_underscore(b) {
-                return Digits { any, at };
+                return Digits {
+                    any,
+                    cursor: Cursor { at },
+                };
             }
             any = met_hex(any, b);
             at = at + 1;
         }
-        Digits { any, at }
+        Digits {
+            any,
+            cursor: Cursor { at },
+        }
     }
 }
 

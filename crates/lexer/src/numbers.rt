@@ -36,7 +36,7 @@ fn is_e(c: u32) -> bool
 
 fn eat_float_exponent(text: &[u8], from: Cursor) -> Digits
     requires { ⌜ from .at ≤ length (now text) ⌝ }
-    ensures { λ r. ⌜ Parted exponent (now (text .entry)) (from .at) (r .any) (r .at) ⌝ }
+    ensures { λ r. ⌜ Parted exponent (now (text .entry)) (from .at) (r .any) (r .cursor .at) ⌝ }
 {
     if is_sign(from.first(text)) {
         return from.bump(text).eat_decimal_digits(text);
@@ -47,47 +47,48 @@ fn eat_float_exponent(text: &[u8], from: Cursor) -> Digits
 // A Float, behind its e.
 fn exponent_of(text: &[u8], from: Cursor, base: u32) -> Part
     requires { ⌜ (from .at ≤ length (now text)) × (base ≤ 3) ⌝ }
-    ensures { λ r. ⌜ Parted (exponentOf base) (now (text .entry)) (from .at) (r .kind) (r .at) ⌝ }
+    ensures { λ r. ⌜ Parted (exponentOf base) (now (text .entry)) (from .at) (r .kind) (r .cursor .at) ⌝ }
 {
     let e = eat_float_exponent(text, from);
+    let cursor = e.cursor;
     if e.any {
         return Part {
             kind: kinds::FLOAT + 2 * base,
-            at: e.at,
+            cursor,
         };
     }
     Part {
         kind: kinds::FLOAT_EMPTY_EXPONENT + 2 * base,
-        at: e.at,
+        cursor,
     }
 }
 
 // A Float, behind its point.
 fn point(text: &[u8], from: Cursor, base: u32) -> Part
     requires { ⌜ (from .at ≤ length (now text)) × (base ≤ 3) ⌝ }
-    ensures { λ r. ⌜ Parted (point base) (now (text .entry)) (from .at) (r .kind) (r .at) ⌝ }
+    ensures { λ r. ⌜ Parted (point base) (now (text .entry)) (from .at) (r .kind) (r .cursor .at) ⌝ }
 {
     if !is_digit(from.first(text)) {
         return Part {
             kind: kinds::FLOAT + 2 * base,
-            at: from.at,
+            cursor: from,
         };
     }
     let d = from.eat_decimal_digits(text);
-    let end = Cursor { at: d.at };
-    if is_e(end.first(text)) {
-        return exponent_of(text, end.bump(text), base);
+    let cursor = d.cursor;
+    if is_e(cursor.first(text)) {
+        return exponent_of(text, cursor.bump(text), base);
     }
     Part {
         kind: kinds::FLOAT + 2 * base,
-        at: d.at,
+        cursor,
     }
 }
 
 // Behind the digits of a base: a point, an exponent, or nothing.
 fn fraction(text: &[u8], from: Cursor, base: u32) -> Part
     requires { ⌜ (from .at ≤ length (now text)) × (base ≤ 3) ⌝ }
-    ensures { λ r. ⌜ Parted (fraction base) (now (text .entry)) (from .at) (r .kind) (r .at) ⌝ }
+    ensures { λ r. ⌜ Parted (fraction base) (now (text .entry)) (from .at) (r .kind) (r .cursor .at) ⌝ }
 {
     let x = from.first(text);
     if x == 0x2E {
@@ -98,28 +99,29 @@ fn fraction(text: &[u8], from: Cursor, base: u32) -> Part
     }
     Part {
         kind: kinds::INT + 2 * base,
-        at: from.at,
+        cursor: from,
     }
 }
 
 // Behind 0b, 0o or 0x and what digits there are.
 fn based(text: &[u8], d: Digits, base: u32) -> Part
-    requires { ⌜ (d .at ≤ length (now text)) × (base ≤ 3) ⌝ }
-    ensures { λ r. ⌜ Parted (based base (d .any)) (now (text .entry)) (d .at) (r .kind) (r .at) ⌝ }
+    requires { ⌜ (d .cursor .at ≤ length (now text)) × (base ≤ 3) ⌝ }
+    ensures { λ r. ⌜ Parted (based base (d .any)) (now (text .entry)) (d .cursor .at) (r .kind) (r .cursor .at) ⌝ }
 {
+    let cursor = d.cursor;
     if d.any {
-        return fraction(text, Cursor { at: d.at }, base);
+        return fraction(text, cursor, base);
     }
     Part {
         kind: kinds::INT_EMPTY + 2 * base,
-        at: d.at,
+        cursor,
     }
 }
 
 // Behind a first digit.
 pub fn number(text: &[u8], from: Cursor, first_digit: u32) -> Part
     requires { ⌜ from .at ≤ length (now text) ⌝ }
-    ensures { λ r. ⌜ Parted (number «first_digit») (now (text .entry)) (from .at) (r .kind) (r .at) ⌝ }
+    ensures { λ r. ⌜ Parted (number «first_digit») (now (text .entry)) (from .at) (r .kind) (r .cursor .at) ⌝ }
 {
     if first_digit == 0x30 {
         let x = from.first(text);
@@ -142,7 +144,7 @@ pub fn number(text: &[u8], from: Cursor, first_digit: u32) -> Part
         }
     }
     let d = from.eat_decimal_digits(text);
-    fraction(text, Cursor { at: d.at }, kinds::DECIMAL)
+    fraction(text, d.cursor, kinds::DECIMAL)
 }
 
 fn is_unit(x: u32, y: u32) -> bool

@@ -14,7 +14,7 @@ use crate::kinds;
 pub struct Quote {
     pub closed: bool,
     pub kind: u32,
-    pub at: usize,
+    pub cursor: Cursor,
 }
 
 // What was seen of a quoted text: whether all of it is 0, 1, an underscore or LF; how many LF there are, none, one or many;
@@ -140,7 +140,7 @@ fn is_escape(text: &[u8], at: usize) -> bool
 // Behind a double quote, byte by byte: only ASCII ends it or is a bit.
 pub fn double_quoted_string(text: &[u8], from: Cursor) -> Quote
     requires { ⌜ from .at ≤ length (now text) ⌝ }
-    ensures { λ r. ⌜ Quoted (now (text .entry)) (from .at) (r .closed) (r .kind) (r .at) ⌝ }
+    ensures { λ r. ⌜ Quoted (now (text .entry)) (from .at) (r .closed) (r .kind) (r .cursor .at) ⌝ }
 {
     let mut at = from.at;
     let mut body = Body {
@@ -157,7 +157,7 @@ pub fn double_quoted_string(text: &[u8], from: Cursor) -> Quote
             return Quote {
                 closed: true,
                 kind,
-                at: at + 1,
+                cursor: Cursor { at: at + 1 },
             };
         }
         body = add(body, c);
@@ -173,6 +173,6 @@ pub fn double_quoted_string(text: &[u8], from: Cursor) -> Quote
     Quote {
         closed: false,
         kind,
-        at,
+        cursor: Cursor { at },
     }
 }
