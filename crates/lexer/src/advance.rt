@@ -82,7 +82,7 @@ fn string(
     let q = double_quoted_string(text, next);
     let cursor = q.cursor;
     if q.closed {
-        let end = eat_literal_suffix(text, cursor, start, more, emoji);
+        let end = eat_literal_suffix(text, cursor, start, more);
         return Piece {
             kind: q.kind,
             suffix: cursor.at,
@@ -119,7 +119,7 @@ fn numeral(
             end: cursor.at,
         };
     }
-    let end = eat_literal_suffix(text, cursor, start, more, emoji);
+    let end = eat_literal_suffix(text, cursor, start, more);
     Piece {
         kind: n.kind,
         suffix: cursor.at,
@@ -152,8 +152,8 @@ fn single(
     if c == 0x22 {
         return string(text, at, c, next, profile, start, more, emoji);
     }
-    if is_wide_emoji(start, more, emoji, c) {
-        let fake = next.eat_fake(text, start, more, emoji);
+    if is_wide_emoji(emoji, c) {
+        let fake = next.eat_fake(text, more, emoji);
         return Piece {
             kind: kinds::INVALID_IDENT,
             suffix: at,
@@ -183,7 +183,7 @@ fn sigil(
 {
     match c {
         0x40 => {
-            let p = annotation(text, next, start, more, emoji);
+            let p = annotation(text, next, start);
             return Piece {
                 kind: p.kind,
                 suffix: at,
@@ -191,7 +191,7 @@ fn sigil(
             };
         }
         0x24 => {
-            let p = hardware_ident(text, next, start, more, emoji);
+            let p = hardware_ident(text, next, more, emoji);
             return Piece {
                 kind: p.kind,
                 suffix: at,
@@ -248,7 +248,7 @@ fn named(
 {
     if is_id_start_in(start, c) {
         let own = Cursor { at };
-        let p = ident_or_unknown_prefix(text, own, c, next, profile, start, more, emoji);
+        let p = ident_or_unknown_prefix(text, own, c, next, profile, more, emoji);
         return Piece {
             kind: p.kind,
             suffix: at,

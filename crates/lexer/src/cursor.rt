@@ -8,7 +8,7 @@ ghost use Rattle.unicode.specs.Ranges.{_to_, inRange};
 ghost use Rattle.unicode.specs.Text.{Place, Ate, left, skip};
 ghost use Rattle.letters.specs.Chars.{isWhitespace};
 ghost use Rattle.lexer.specs.Cut.{peek, notLf, isDigit, isHexDigit, orUnderscore, met, wideEmoji, goesOn};
-ghost use Rattle.lexer.specs.Unicode.{startIn, moreIn, lent};
+ghost use Rattle.lexer.specs.Unicode.{startIn, moreIn, emojiIn};
 ghost use Rattle.lexer.specs.Steps.{Ran};
 use letters::is_whitespace;
 use ucd::is_emoji_in;
@@ -80,8 +80,8 @@ fn is_hex_digit(c: u32) -> bool
     is_between(0x61, 0x66, c)
 }
 
-pub fn is_wide_emoji(start: &[u32], more: &[u32], emoji: &[u32], c: u32) -> bool
-    ensures { λ r. ⌜ r ≡ wideEmoji (lent (now (start .entry)) (now (more .entry)) (now (emoji .entry))) c ⌝ }
+pub fn is_wide_emoji(emoji: &[u32], c: u32) -> bool
+    ensures { λ r. ⌜ r ≡ wideEmoji (emojiIn (now (emoji .entry))) c ⌝ }
 {
     if c < 0x80 {
         return false;
@@ -89,13 +89,13 @@ pub fn is_wide_emoji(start: &[u32], more: &[u32], emoji: &[u32], c: u32) -> bool
     is_emoji_in(emoji, c)
 }
 
-fn goes_on(start: &[u32], more: &[u32], emoji: &[u32], c: u32) -> bool
-    ensures { λ r. ⌜ r ≡ goesOn (lent (now (start .entry)) (now (more .entry)) (now (emoji .entry))) c ⌝ }
+fn goes_on(more: &[u32], emoji: &[u32], c: u32) -> bool
+    ensures { λ r. ⌜ r ≡ goesOn (moreIn (now (more .entry))) (emojiIn (now (emoji .entry))) c ⌝ }
 {
     if is_xid_continue_in(more, c) {
         return true;
     }
-    if is_wide_emoji(start, more, emoji, c) {
+    if is_wide_emoji(emoji, c) {
         return true;
     }
     c == 0x200D
@@ -200,14 +200,14 @@ impl Cursor {
     }
 
     // The rest of an identifier that holds an emoji.
-    pub fn eat_fake(self, text: &[u8], start: &[u32], more: &[u32], emoji: &[u32]) -> Cursor
+    pub fn eat_fake(self, text: &[u8], more: &[u32], emoji: &[u32]) -> Cursor
         requires { ⌜ self .at ≤ length (now text) ⌝ }
-        ensures { λ r. ⌜ Place (now (text .entry)) (self .at) (r .at) (skip (goesOn (lent (now (start .entry)) (now (more .entry)) (now (emoji .entry)))) (left (now (text .entry)) (self .at))) ⌝ }
+        ensures { λ r. ⌜ Place (now (text .entry)) (self .at) (r .at) (skip (goesOn (moreIn (now (more .entry))) (emojiIn (now (emoji .entry)))) (left (now (text .entry)) (self .at))) ⌝ }
     {
         let mut at = self.at;
         while at < text.len() {
             let d = decode(text, at);
-            if !goes_on(start, more, emoji, d.code) {
+            if !goes_on(more, emoji, d.code) {
                 return Cursor { at };
             }
             at = at + d.wide;

@@ -7,7 +7,7 @@ ghost use lib.Dec.{eqb};
 ghost use lib.ListN.{length};
 ghost use Rattle.unicode.specs.Text.{Place, left};
 ghost use Rattle.lexer.specs.Cut.{peek, isE, exponent, exponentOf, point, fraction, based, number, isUnit, identifier};
-ghost use Rattle.lexer.specs.Unicode.{lent};
+ghost use Rattle.lexer.specs.Unicode.{startIn, moreIn};
 ghost use Rattle.lexer.specs.Steps.{Parted};
 use crate::comments::Part;
 use crate::cursor::Cursor;
@@ -171,9 +171,9 @@ pub fn has_timing_or_imaginary_suffix(text: &[u8], from: Cursor) -> bool
     is_unit(x, y)
 }
 
-fn eat_identifier(text: &[u8], from: Cursor, start: &[u32], more: &[u32], emoji: &[u32]) -> Cursor
+fn eat_identifier(text: &[u8], from: Cursor, start: &[u32], more: &[u32]) -> Cursor
     requires { ⌜ from .at ≤ length (now text) ⌝ }
-    ensures { λ r. ⌜ Place (now (text .entry)) (from .at) (r .at) (identifier (lent (now (start .entry)) (now (more .entry)) (now (emoji .entry))) (left (now (text .entry)) (from .at))) ⌝ }
+    ensures { λ r. ⌜ Place (now (text .entry)) (from .at) (r .at) (identifier (startIn (now (start .entry))) (moreIn (now (more .entry))) (left (now (text .entry)) (from .at))) ⌝ }
 {
     if !is_id_start_in(start, from.first(text)) {
         return from;
@@ -182,15 +182,9 @@ fn eat_identifier(text: &[u8], from: Cursor, start: &[u32], more: &[u32], emoji:
 }
 
 // The suffix of a literal is an identifier.
-pub fn eat_literal_suffix(
-    text: &[u8],
-    from: Cursor,
-    start: &[u32],
-    more: &[u32],
-    emoji: &[u32],
-) -> Cursor
+pub fn eat_literal_suffix(text: &[u8], from: Cursor, start: &[u32], more: &[u32]) -> Cursor
     requires { ⌜ from .at ≤ length (now text) ⌝ }
-    ensures { λ r. ⌜ Place (now (text .entry)) (from .at) (r .at) (identifier (lent (now (start .entry)) (now (more .entry)) (now (emoji .entry))) (left (now (text .entry)) (from .at))) ⌝ }
+    ensures { λ r. ⌜ Place (now (text .entry)) (from .at) (r .at) (identifier (startIn (now (start .entry))) (moreIn (now (more .entry))) (left (now (text .entry)) (from .at))) ⌝ }
 {
-    eat_identifier(text, from, start, more, emoji)
+    eat_identifier(text, from, start, more)
 }

@@ -5,7 +5,7 @@ ghost use Prim.Native.Nat.{_≤_};
 ghost use lib.ListN.{length};
 ghost use Rattle.unicode.specs.Text.{left};
 ghost use Rattle.lexer.specs.Cut.{name, word, pound, annotated, hardware};
-ghost use Rattle.lexer.specs.Unicode.{lent};
+ghost use Rattle.lexer.specs.Unicode.{startIn, moreIn, emojiIn};
 ghost use Rattle.lexer.specs.Steps.{Parted, Agreed};
 use crate::comments::Part;
 use crate::cursor::Cursor;
@@ -75,13 +75,13 @@ pub fn pound(text: &[u8], from: Cursor) -> Part
 }
 
 // Behind the ASCII that an identifier begins with.
-fn wide_name(text: &[u8], from: Cursor, start: &[u32], more: &[u32], emoji: &[u32]) -> Part
+fn wide_name(text: &[u8], from: Cursor, more: &[u32], emoji: &[u32]) -> Part
     requires { ⌜ from .at ≤ length (now text) ⌝ }
-    ensures { λ r. ⌜ Parted (name (lent (now (start .entry)) (now (more .entry)) (now (emoji .entry)))) (now (text .entry)) (from .at) (r .kind) (r .cursor .at) ⌝ }
+    ensures { λ r. ⌜ Parted (name (moreIn (now (more .entry))) (emojiIn (now (emoji .entry)))) (now (text .entry)) (from .at) (r .kind) (r .cursor .at) ⌝ }
 {
     let cursor = from.eat_id_continue(text, more);
-    if is_wide_emoji(start, more, emoji, cursor.first(text)) {
-        let cursor = cursor.eat_fake(text, start, more, emoji);
+    if is_wide_emoji(emoji, cursor.first(text)) {
+        let cursor = cursor.eat_fake(text, more, emoji);
         return Part {
             kind: kinds::INVALID_IDENT,
             cursor,
@@ -94,9 +94,9 @@ fn wide_name(text: &[u8], from: Cursor, start: &[u32], more: &[u32], emoji: &[u3
 }
 
 // Behind the first character of an identifier. Most are of ASCII alone, and end here.
-fn name(text: &[u8], from: Cursor, start: &[u32], more: &[u32], emoji: &[u32]) -> Part
+fn name(text: &[u8], from: Cursor, more: &[u32], emoji: &[u32]) -> Part
     requires { ⌜ from .at ≤ length (now text) ⌝ }
-    ensures { λ r. ⌜ Parted (name (lent (now (start .entry)) (now (more .entry)) (now (emoji .entry)))) (now (text .entry)) (from .at) (r .kind) (r .cursor .at) ⌝ }
+    ensures { λ r. ⌜ Parted (name (moreIn (now (more .entry))) (emojiIn (now (emoji .entry)))) (now (text .entry)) (from .at) (r .kind) (r .cursor .at) ⌝ }
 {
     let cursor = from.eat_ascii_continue(text, more);
     if byte(text, cursor.at) < 0x80 {
@@ -105,7 +105,7 @@ fn name(text: &[u8], from: Cursor, start: &[u32], more: &[u32], emoji: &[u32]) -
             cursor,
         };
     }
-    wide_name(text, cursor, start, more, emoji)
+    wide_name(text, cursor, more, emoji)
 }
 
 // Behind the first character c of an identifier that begins at `own`. Under profile 1 the bytes of `pragma` make a Pragma of
@@ -116,12 +116,11 @@ pub fn ident_or_unknown_prefix(
     c: u32,
     from: Cursor,
     profile: u32,
-    start: &[u32],
     more: &[u32],
     emoji: &[u32],
 ) -> Part
     requires { ⌜ (own .at ≤ length (now text)) × (from .at ≤ length (now text)) × (left (now text) (own .at) ≡ c ∷ left (now text) (from .at)) ⌝ }
-    ensures { λ r. ⌜ Parted (word (lent (now (start .entry)) (now (more .entry)) (now (emoji .entry))) profile c) (now (text .entry)) (from .at) (r .kind) (r .cursor .at) ⌝ }
+    ensures { λ r. ⌜ Parted (word (moreIn (now (more .entry))) (emojiIn (now (emoji .entry))) profile c) (now (text .entry)) (from .at) (r .kind) (r .cursor .at) ⌝ }
 {
     if profile == 1 {
         let a = agree_with(text, own, &PRAGMA_WORD);
@@ -133,13 +132,13 @@ pub fn ident_or_unknown_prefix(
             };
         }
     }
-    name(text, from, start, more, emoji)
+    name(text, from, more, emoji)
 }
 
 // Behind an at sign.
-pub fn annotation(text: &[u8], from: Cursor, start: &[u32], more: &[u32], emoji: &[u32]) -> Part
+pub fn annotation(text: &[u8], from: Cursor, start: &[u32]) -> Part
     requires { ⌜ from .at ≤ length (now text) ⌝ }
-    ensures { λ r. ⌜ Parted (annotated (lent (now (start .entry)) (now (more .entry)) (now (emoji .entry)))) (now (text .entry)) (from .at) (r .kind) (r .cursor .at) ⌝ }
+    ensures { λ r. ⌜ Parted (annotated (startIn (now (start .entry)))) (now (text .entry)) (from .at) (r .kind) (r .cursor .at) ⌝ }
 {
     if is_id_start_in(start, from.first(text)) {
         let cursor = from.eat_line(text);
@@ -155,13 +154,13 @@ pub fn annotation(text: &[u8], from: Cursor, start: &[u32], more: &[u32], emoji:
 }
 
 // Behind a dollar sign.
-pub fn hardware_ident(text: &[u8], from: Cursor, start: &[u32], more: &[u32], emoji: &[u32]) -> Part
+pub fn hardware_ident(text: &[u8], from: Cursor, more: &[u32], emoji: &[u32]) -> Part
     requires { ⌜ from .at ≤ length (now text) ⌝ }
-    ensures { λ r. ⌜ Parted (hardware (lent (now (start .entry)) (now (more .entry)) (now (emoji .entry)))) (now (text .entry)) (from .at) (r .kind) (r .cursor .at) ⌝ }
+    ensures { λ r. ⌜ Parted (hardware (moreIn (now (more .entry))) (emojiIn (now (emoji .entry)))) (now (text .entry)) (from .at) (r .kind) (r .cursor .at) ⌝ }
 {
-    if is_wide_emoji(start, more, emoji, from.first(text)) {
+    if is_wide_emoji(emoji, from.first(text)) {
         let mid = from.eat_id_continue(text, more);
-        let cursor = mid.eat_fake(text, start, more, emoji);
+        let cursor = mid.eat_fake(text, more, emoji);
         return Part {
             kind: kinds::INVALID_IDENT,
             cursor,
