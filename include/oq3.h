@@ -344,8 +344,8 @@ bool oq3_is_white_space(uint32_t c); /* White_Space: more than oq3_is_whitespace
 /* ---- Stack -------------------------------------------------------------------------------------------------------------------- */
 
 /*
- * A call takes less stack than this many bytes, memcpy and memset and their binding at a first call included. Most of it are the tables of the
- * properties, which a call that may need them copies there.
+ * A call takes less stack than this many bytes, memcpy and memset and their binding at a first call included: measured, not proved, with more than a
+ * quarter to spare. Most of it is for the tables of the properties, which a call that may need them copies there.
  */
 enum {
     OQ3_STACK_TOKENIZE_ROWS = 36 * 1024, /* oq3_tokenize_rows, which has oq3_tokenize count where the row may be short */
