@@ -2,7 +2,7 @@
 """inputs.py PROGRAMS OUT [BYTES]: writes the inputs of the measurement into OUT, each of about BYTES bytes (default 1,000,000; the programs and
 the lines eight times as many), valid UTF-8.
 
-PROGRAMS is the folder of programs among the vectors. They are some kilobytes again and again, whose turns a processor learns; the lines are those of
+PROGRAMS is the folder of programs among the vectors. They are 4,572 bytes again and again, whose turns a processor learns; the lines are those of
 programs too, and do not repeat. What is generated comes from fixed seeds, the lines from one of their own.
 """
 import os, random, sys
