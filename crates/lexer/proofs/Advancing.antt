@@ -56,39 +56,39 @@ module _ (u : Letters) (profile : ℕ) {s : List ℕ} {at c next : ℕ} (v : Sta
   cut-space n o t p k =
       cuts (record { kind = whitespaceKind; fromSuffix = c ∷ left s next; rest = skip isWhitespace (left s next) }) (rw (ne-eqb c 0x2F n, sym o ∙ t)) k own p
 
-  pub cut-word : {kind end : ℕ} {b : Bool} → (c ≡ 0x2F → ⊥) → isWhitespace c ≡ false → b ≡ u .start c → b ≡ true → Parted (word u profile c) s next kind end → Cuts u profile s at kind at end
+  pub cut-word : {kind end : ℕ} {b : Bool} → (c ≡ 0x2F → ⊥) → isWhitespace c ≡ false → b ≡ u .start c → b ≡ true → Parted (word (u .more) (u .emoji) profile c) s next kind end → Cuts u profile s at kind at end
   unfolding advance
   cut-word n h o t p = part (rw (ne-eqb c 0x2F n, h, sym o ∙ t)) p
 
   module _ (y : Later u c) where
-    pub cut-number : {kind suffixAt end : ℕ} → isDigit c ≡ true → Parted (number c) s next kind suffixAt → Place s suffixAt end (numberSuffix u (left s suffixAt)) → Cuts u profile s at kind suffixAt end
+    pub cut-number : {kind suffixAt end : ℕ} → isDigit c ≡ true → Parted (number c) s next kind suffixAt → Place s suffixAt end (numberSuffix (u .start) (u .more) (left s suffixAt)) → Cuts u profile s at kind suffixAt end
     unfolding advance
     cut-number h p q =
         let n = number c (left s next) in
-        cuts (record { kind = n .0; fromSuffix = n .1; rest = numberSuffix u (n .1) }) (rw (ne-eqb c 0x2F (y .no-slash), y .no-space, y .no-name, h)) (p .what)
-        (behind (p .place)) (from-place (p .place) q (ap (numberSuffix u) (p .place .there)))
+        cuts (record { kind = n .0; fromSuffix = n .1; rest = numberSuffix (u .start) (u .more) (n .1) }) (rw (ne-eqb c 0x2F (y .no-slash), y .no-space, y .no-name, h)) (p .what)
+        (behind (p .place)) (from-place (p .place) q (ap (numberSuffix (u .start) (u .more)) (p .place .there)))
 
     pub cut-pound : {kind end : ℕ} → isDigit c ≡ false → c ≡ 0x23 → Parted pound s next kind end → Cuts u profile s at kind at end
     unfolding advance
     cut-pound h e p = part (rw (ne-eqb c 0x2F (y .no-slash), y .no-space, y .no-name, h, eq-eqb c 0x23 e)) p
 
-    pub cut-annotated : {kind end : ℕ} → isDigit c ≡ false → c ≡ 0x40 → Parted (annotated u) s next kind end → Cuts u profile s at kind at end
+    pub cut-annotated : {kind end : ℕ} → isDigit c ≡ false → c ≡ 0x40 → Parted (annotated (u .start)) s next kind end → Cuts u profile s at kind at end
     unfolding advance
     cut-annotated h e p =
         part (rw (ne-eqb c 0x2F (y .no-slash), y .no-space, y .no-name, h, ne-eqb c 0x23 (λ z. omega arith), eq-eqb c 0x40 e)) p
 
-    pub cut-hardware : {kind end : ℕ} → isDigit c ≡ false → c ≡ 0x24 → Parted (hardware u) s next kind end → Cuts u profile s at kind at end
+    pub cut-hardware : {kind end : ℕ} → isDigit c ≡ false → c ≡ 0x24 → Parted (hardware (u .more) (u .emoji)) s next kind end → Cuts u profile s at kind at end
     unfolding advance
     cut-hardware h e p =
         part (rw (ne-eqb c 0x2F (y .no-slash), y .no-space, y .no-name, h, ne-eqb c 0x23 (λ z. omega arith), ne-eqb c 0x40 (λ z. omega arith), eq-eqb c 0x24 e)) p
 
-    pub cut-closed : {b : Bool} {kind suffixAt end : ℕ} → c ≡ 0x22 → Quoted s next b kind suffixAt → b ≡ true → Place s suffixAt end (identifier u (left s suffixAt)) → Cuts u profile s at kind suffixAt end
+    pub cut-closed : {b : Bool} {kind suffixAt end : ℕ} → c ≡ 0x22 → Quoted s next b kind suffixAt → b ≡ true → Place s suffixAt end (identifier (u .start) (u .more) (left s suffixAt)) → Cuts u profile s at kind suffixAt end
     unfolding advance isDigit marks markIn
     cut-closed e q t p =
         let r = quoted (left s next) in
         let h : r .closed ≡ true = sym (q .flag) ∙ t in
-        cuts (record { kind = quoteKind r; fromSuffix = r .rest; rest = identifier u (r .rest) }) (rw (ne-eqb c 0x2F (y .no-slash), y .no-space, y .no-name, e, h)) (q .what)
-        (behind (q .place)) (from-place (q .place) p (ap (identifier u) (q .place .there)))
+        cuts (record { kind = quoteKind r; fromSuffix = r .rest; rest = identifier (u .start) (u .more) (r .rest) }) (rw (ne-eqb c 0x2F (y .no-slash), y .no-space, y .no-name, e, h)) (q .what)
+        (behind (q .place)) (from-place (q .place) p (ap (identifier (u .start) (u .more)) (q .place .there)))
 
     pub cut-unclosed : {b : Bool} {kind suffixAt : ℕ} → c ≡ 0x22 → Quoted s next b kind suffixAt → b ≡ false → Cuts u profile s at kind suffixAt suffixAt
     unfolding advance isDigit marks markIn
@@ -107,15 +107,15 @@ module _ (u : Letters) (profile : ℕ) {s : List ℕ} {at c next : ℕ} (v : Sta
         (rw (ne-eqb c 0x2F (z .no-slash), z .no-space, z .no-name, y .no-digit, ne-eqb c 0x23 (y .no-pound), ne-eqb c 0x40 (y .no-at), ne-eqb c 0x24 (y .no-dollar), ne-eqb (markIn marks c) 0 (λ x. n (o ∙ x))))
         (e ∙ o) own (rw w (record { after = omega arith; within = v .within; there = refl }))
 
-    pub cut-emoji : {b : Bool} {kind end : ℕ} → k ≡ 0 → (c ≡ 0x22 → ⊥) → b ≡ wideEmoji u c → b ≡ true → Place s next end (skip (goesOn u) (left s next)) → kind ≡ invalidIdent → Cuts u profile s at kind at end
+    pub cut-emoji : {b : Bool} {kind end : ℕ} → k ≡ 0 → (c ≡ 0x22 → ⊥) → b ≡ wideEmoji (u .emoji) c → b ≡ true → Place s next end (skip (goesOn (u .more) (u .emoji)) (left s next)) → kind ≡ invalidIdent → Cuts u profile s at kind at end
     unfolding advance
     cut-emoji n i f t p e =
         let z = y .later in
-        cuts (record { kind = invalidIdent; fromSuffix = c ∷ left s next; rest = skip (goesOn u) (left s next) })
+        cuts (record { kind = invalidIdent; fromSuffix = c ∷ left s next; rest = skip (goesOn (u .more) (u .emoji)) (left s next) })
         (rw (ne-eqb c 0x2F (z .no-slash), z .no-space, z .no-name, y .no-digit, ne-eqb c 0x23 (y .no-pound), ne-eqb c 0x40 (y .no-at), ne-eqb c 0x24 (y .no-dollar), sym o ∙ n, ne-eqb c 0x22 i, sym f ∙ t))
         e own p
 
-    pub cut-unknown : {b : Bool} {kind end : ℕ} → k ≡ 0 → (c ≡ 0x22 → ⊥) → b ≡ wideEmoji u c → b ≡ false → kind ≡ unknown → end ≡ next → Cuts u profile s at kind at end
+    pub cut-unknown : {b : Bool} {kind end : ℕ} → k ≡ 0 → (c ≡ 0x22 → ⊥) → b ≡ wideEmoji (u .emoji) c → b ≡ false → kind ≡ unknown → end ≡ next → Cuts u profile s at kind at end
     unfolding advance
     cut-unknown n i f t e w =
         let z = y .later in

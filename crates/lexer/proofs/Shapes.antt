@@ -170,34 +170,34 @@ plainly : {c : ℕ} {t : List ℕ} {r : ℕ × List ℕ} → Plain t r → Shape
 plainly p = plain (p .listed) refl (p .ends)
 
 module _ (u : Letters) where
-  pub name-part : (t : List ℕ) → Plain t (name u t)
+  pub name-part : (t : List ℕ) → Plain t (name (u .more) (u .emoji) t)
   unfolding name
   name-part t =
       let r = skip (u .more) t in
       part-of (ends-skip (u .more) t)
-      (on-cond (Plain r) (wideEmoji u (peek r)) (record { listed = refl; ends = ends-skip (goesOn u) r }) (record { listed = refl; ends = ends-all r }))
+      (on-cond (Plain r) (wideEmoji (u .emoji) (peek r)) (record { listed = refl; ends = ends-skip (goesOn (u .more) (u .emoji)) r }) (record { listed = refl; ends = ends-all r }))
 
-  word-part : (profile c : ℕ) (t : List ℕ) → Plain t (word u profile c t)
+  word-part : (profile c : ℕ) (t : List ℕ) → Plain t (word (u .more) (u .emoji) profile c t)
   unfolding word
   word-part profile c t =
       on-cond (Plain t) (eqb profile 1 && eqb (agree pragmaWord (c ∷ t)) 6) (record { listed = refl; ends = ends-skip notLf t }) (name-part t)
 
-  annotated-part : (t : List ℕ) → Plain t (annotated u t)
+  annotated-part : (t : List ℕ) → Plain t (annotated (u .start) t)
   unfolding annotated
   annotated-part t = on-cond (Plain t) (u .start (peek t)) (record { listed = refl; ends = ends-skip notLf t }) (record { listed = refl; ends = ends-all t })
 
-  hardware-part : (t : List ℕ) → Plain t (hardware u t)
+  hardware-part : (t : List ℕ) → Plain t (hardware (u .more) (u .emoji) t)
   unfolding hardware
   hardware-part t =
-      on-cond (Plain t) (wideEmoji u (peek t))
-      (part-of (ends-skip (u .more) t) (record { listed = refl; ends = ends-skip (goesOn u) (skip (u .more) t) }))
+      on-cond (Plain t) (wideEmoji (u .emoji) (peek t))
+      (part-of (ends-skip (u .more) t) (record { listed = refl; ends = ends-skip (goesOn (u .more) (u .emoji)) (skip (u .more) t) }))
       (record { listed = on-cond (λ (k : ℕ). isPlain k ≡ true) (digits isDigit t .0) refl refl; ends = ends-digits isDigit t })
 
-  ends-identifier : (t : List ℕ) → Ends (identifier u t) t
+  ends-identifier : (t : List ℕ) → Ends (identifier (u .start) (u .more) t) t
   unfolding identifier
   ends-identifier t = on-cond (λ (x : List ℕ). Ends x t) (u .start (peek t)) (ends-then (ends-tail t) (ends-skip (u .more) (tail t))) (ends-all t)
 
-  ends-suffix : (t : List ℕ) → Ends (numberSuffix u t) t
+  ends-suffix : (t : List ℕ) → Ends (numberSuffix (u .start) (u .more) t) t
   unfolding numberSuffix
   ends-suffix t = on-cond (λ (x : List ℕ). Ends x t) (isUnit (peek t) (peek (tail t))) (ends-all t) (ends-identifier t)
 
@@ -219,7 +219,7 @@ module _ (u : Letters) where
       (λ e. rw e
       (on-cond P (eqb c 0x22)
       (literal (quote-listed q) (ends-quoted t) (on-cond (λ (x : List ℕ). Ends x (q .rest)) (q .closed) (ends-identifier (q .rest)) (ends-all (q .rest))))
-      (on-cond P (wideEmoji u c) (plainly (record { listed = refl; ends = ends-skip (goesOn u) t })) (plainly (record { listed = refl; ends = ends-all t })))))
+      (on-cond P (wideEmoji (u .emoji) c) (plainly (record { listed = refl; ends = ends-skip (goesOn (u .more) (u .emoji)) t })) (plainly (record { listed = refl; ends = ends-all t })))))
       (λ e. rw e (plainly (record { listed = mark-has isPlain marks c all-marked e; ends = ends-all t }))))))))))
 
   -- ---- so each token takes at least its first character

@@ -4,7 +4,7 @@ use mathlib.Core.Bool.{Bool, true, false, not, cond, _&&_, _||_}
 use mathlib.Core.List.{List, [], _∷_, tail}
 use Prim.Native.Nat.{ℕ, _+_, suc, _-_}
 use lib.Dec.{eqb, leb}
-use lib.ListN.{drop}
+use lib.ListN.{length, drop}
 use Rattle.lists.specs.All.{all}
 use Rattle.lists.specs.Cut.{cut}
 use Rattle.lists.specs.Eat.{eat}
@@ -76,7 +76,7 @@ agree (w ∷ ws) (c ∷ t) = cond (eqb c w) (suc (agree ws t)) 0
 unfoldable pub pound : List ℕ → ℕ × List ℕ
 pound t =
     let n = agree pragmaWord t in
-    cond (eqb n 6) (pragma, skip notLf t) (invalidIdent, drop n t)
+    cond (eqb n (length pragmaWord)) (pragma, skip notLf t) (invalidIdent, drop n t)
 
 -- ---- numbers
 -- digits and underscores are eaten: whether there was a digit, and what is left
@@ -199,41 +199,44 @@ pub record Token : Type 0 where
   pub len : ℕ
   pub suffix : ℕ
 
-module _ (u : Letters) where
-  abbrev pub wideEmoji : ℕ → Bool
-  wideEmoji c = leb 0x80 c && u .emoji c
+-- ---- names, over the tests that each asks
+abbrev pub wideEmoji : (ℕ → Bool) → ℕ → Bool
+wideEmoji emoji c = leb 0x80 c && emoji c
 
+module _ (more emoji : ℕ → Bool) where
   -- what goes on with an identifier that holds an emoji
   abbrev pub goesOn : ℕ → Bool
-  goesOn c = u .more c || (wideEmoji c || eqb c 0x200D)
+  goesOn c = more c || (wideEmoji emoji c || eqb c 0x200D)
 
   -- behind the first character of an identifier
   unfoldable pub name : List ℕ → ℕ × List ℕ
   name t =
-      let r = skip (u .more) t in
-      cond (wideEmoji (peek r)) (invalidIdent, skip goesOn r) (ident, r)
+      let r = skip more t in
+      cond (wideEmoji emoji (peek r)) (invalidIdent, skip goesOn r) (ident, r)
 
   -- behind c, which begins an identifier; under profile 1 the bytes pragma make a Pragma of the line
   unfoldable pub word : ℕ → ℕ → List ℕ → ℕ × List ℕ
-  word profile c t = cond (eqb profile 1 && eqb (agree pragmaWord (c ∷ t)) 6) (pragma, skip notLf t) (name t)
-
-  -- an identifier eaten as a suffix; a unit is no suffix of a number
-  unfoldable pub identifier : List ℕ → List ℕ
-  identifier t = cond (u .start (peek t)) (skip (u .more) (tail t)) t
-
-  unfoldable pub numberSuffix : List ℕ → List ℕ
-  numberSuffix t = cond (isUnit (peek t) (peek (tail t))) t (identifier t)
-
-  -- behind @
-  unfoldable pub annotated : List ℕ → ℕ × List ℕ
-  annotated t = cond (u .start (peek t)) (annotation, skip notLf t) (atSign, t)
+  word profile c t = cond (eqb profile 1 && eqb (agree pragmaWord (c ∷ t)) (length pragmaWord)) (pragma, skip notLf t) (name t)
 
   -- behind $
   unfoldable pub hardware : List ℕ → ℕ × List ℕ
   hardware t =
-      cond (wideEmoji (peek t)) (invalidIdent, skip goesOn (skip (u .more) t))
+      cond (wideEmoji emoji (peek t)) (invalidIdent, skip goesOn (skip more t))
       (let d = digits isDigit t in (cond (d .0) hardwareIdent dollar, d .1))
 
+-- behind @
+unfoldable pub annotated : (ℕ → Bool) → List ℕ → ℕ × List ℕ
+annotated start t = cond (start (peek t)) (annotation, skip notLf t) (atSign, t)
+
+module _ (start more : ℕ → Bool) where
+  -- an identifier eaten as a suffix; a unit is no suffix of a number
+  unfoldable pub identifier : List ℕ → List ℕ
+  identifier t = cond (start (peek t)) (skip more (tail t)) t
+
+  unfoldable pub numberSuffix : List ℕ → List ℕ
+  numberSuffix t = cond (isUnit (peek t) (peek (tail t))) t (identifier t)
+
+module _ (u : Letters) where
   -- ---- the token that c ∷ t begins with, by its first character, in the order of the tests
   unfoldable pub advance : ℕ → ℕ → List ℕ → Piece
   unfolding plain literal
@@ -243,14 +246,14 @@ module _ (u : Letters) where
       let m = markIn marks c in
       cond (eqb c 0x2F) (plain c t (slash t))
       (cond (isWhitespace c) (plain c t (whitespaceKind, skip isWhitespace t))
-      (cond (u .start c) (plain c t (word profile c t))
-      (cond (isDigit c) (literal (n .0) (n .1) (numberSuffix (n .1)))
+      (cond (u .start c) (plain c t (word (u .more) (u .emoji) profile c t))
+      (cond (isDigit c) (literal (n .0) (n .1) (numberSuffix (u .start) (u .more) (n .1)))
       (cond (eqb c 0x23) (plain c t (pound t))
-      (cond (eqb c 0x40) (plain c t (annotated t))
-      (cond (eqb c 0x24) (plain c t (hardware t))
+      (cond (eqb c 0x40) (plain c t (annotated (u .start) t))
+      (cond (eqb c 0x24) (plain c t (hardware (u .more) (u .emoji) t))
       (cond (not (eqb m 0)) (plain c t (m, t))
-      (cond (eqb c 0x22) (literal (quoteKind q) (q .rest) (cond (q .closed) (identifier (q .rest)) (q .rest)))
-      (cond (wideEmoji c) (plain c t (invalidIdent, skip goesOn t))
+      (cond (eqb c 0x22) (literal (quoteKind q) (q .rest) (cond (q .closed) (identifier (u .start) (u .more) (q .rest)) (q .rest)))
+      (cond (wideEmoji (u .emoji) c) (plain c t (invalidIdent, skip (goesOn (u .more) (u .emoji)) t))
       (plain c t (unknown, t)))))))))))
 
   -- of no text there is no token

@@ -68,11 +68,11 @@ unfolding marks isCounted all
 all-count = refl
 
 module _ (u : Letters) where
-  name-counts : (t : List ℕ) → Counts (name u t)
+  name-counts : (t : List ℕ) → Counts (name (u .more) (u .emoji) t)
   unfolding name isCounted
-  name-counts t = on-cond Counts (wideEmoji u (peek (skip (u .more) t))) refl refl
+  name-counts t = on-cond Counts (wideEmoji (u .emoji) (peek (skip (u .more) t))) refl refl
 
-  word-counts : (profile c : ℕ) (t : List ℕ) → Counts (word u profile c t)
+  word-counts : (profile c : ℕ) (t : List ℕ) → Counts (word (u .more) (u .emoji) profile c t)
   unfolding word isCounted
   word-counts profile c t = on-cond Counts (eqb profile 1 && eqb (agree pragmaWord (c ∷ t)) 6) refl (name-counts t)
 
@@ -80,13 +80,13 @@ module _ (u : Letters) where
   unfolding pound isCounted
   pound-counts t = on-cond Counts (eqb (agree pragmaWord t) 6) refl refl
 
-  annotated-counts : (t : List ℕ) → Counts (annotated u t)
+  annotated-counts : (t : List ℕ) → Counts (annotated (u .start) t)
   unfolding annotated isCounted
   annotated-counts t = on-cond Counts (u .start (peek t)) refl refl
 
-  hardware-counts : (t : List ℕ) → Counts (hardware u t)
+  hardware-counts : (t : List ℕ) → Counts (hardware (u .more) (u .emoji) t)
   unfolding hardware isCounted
-  hardware-counts t = on-cond Counts (wideEmoji u (peek t)) refl (on-cond (λ (k : ℕ). isCounted k ≡ true) (digits isDigit t .0) refl refl)
+  hardware-counts t = on-cond Counts (wideEmoji (u .emoji) (peek t)) refl (on-cond (λ (k : ℕ). isCounted k ≡ true) (digits isDigit t .0) refl refl)
 
   -- ---- behind any other first character a token counts
   pub others-count : (profile c : ℕ) (t : List ℕ) → eqb c 0x2F ≡ false → isWhitespace c ≡ false → isCounted (advance u profile c t .kind) ≡ true
@@ -101,7 +101,7 @@ module _ (u : Letters) where
       (on-cond P (eqb c 0x40) (annotated-counts t)
       (on-cond P (eqb c 0x24) (hardware-counts t)
       (by-test (eqb m 0)
-      (λ e. rw e (on-cond P (eqb c 0x22) (quote-counts (quoted t)) (on-cond P (wideEmoji u c) refl refl)))
+      (λ e. rw e (on-cond P (eqb c 0x22) (quote-counts (quoted t)) (on-cond P (wideEmoji (u .emoji) c) refl refl)))
       (λ e. rw e (mark-has isCounted marks c all-count e))))))))
 
   -- ---- only white space is of its kind

@@ -81,21 +81,21 @@ unfolding pound
 pound-mark c t = on-cond (Part c t) (eqb (agree pragmaWord t) 6) (never refl) (never refl)
 
 module _ (u : Letters) where
-  word-mark : (profile c : ℕ) (t : List ℕ) → Part c t (word u profile c t)
+  word-mark : (profile c : ℕ) (t : List ℕ) → Part c t (word (u .more) (u .emoji) profile c t)
   unfolding word name
   word-mark profile c t =
       on-cond (Part c t) (eqb profile 1 && eqb (agree pragmaWord (c ∷ t)) 6) (never refl)
-      (on-cond (Part c t) (wideEmoji u (peek (skip (u .more) t))) (never refl) (never refl))
+      (on-cond (Part c t) (wideEmoji (u .emoji) (peek (skip (u .more) t))) (never refl) (never refl))
 
-  annotated-mark : (c : ℕ) (t : List ℕ) → c ≡ 0x40 → Part c t (annotated u t)
+  annotated-mark : (c : ℕ) (t : List ℕ) → c ≡ 0x40 → Part c t (annotated (u .start) t)
   unfolding annotated ownBytes byteIn
   annotated-mark c t e =
       on-cond (Part c t) (u .start (peek t)) (never refl) (λ m. rw e (record { rest = refl; bytes = refl; small = omega arith }))
 
-  hardware-mark : (c : ℕ) (t : List ℕ) → Part c t (hardware u t)
+  hardware-mark : (c : ℕ) (t : List ℕ) → Part c t (hardware (u .more) (u .emoji) t)
   unfolding hardware
   hardware-mark c t =
-      on-cond (Part c t) (wideEmoji u (peek t)) (never refl) (never (on-cond (λ (k : ℕ). isMark k ≡ false) (digits isDigit t .0) refl refl))
+      on-cond (Part c t) (wideEmoji (u .emoji) (peek t)) (never refl) (never (on-cond (λ (k : ℕ). isMark k ≡ false) (digits isDigit t .0) refl refl))
 
   pub advance-mark : (profile c : ℕ) (t : List ℕ) → Marked c t (advance u profile c t)
   unfolding advance
@@ -116,5 +116,5 @@ module _ (u : Letters) where
       (by-test (eqb m 0)
       (λ h. rw h
       (on-cond P (eqb c 0x22) (literal-mark (quote-listed (quoted t)))
-      (on-cond P (wideEmoji u c) (never refl) (never refl))))
+      (on-cond P (wideEmoji (u .emoji) c) (never refl) (never refl))))
       (λ h. rw h (λ k. let o = mark-own marks c all-own h in record { rest = refl; bytes = o .1; small = o .0 })))))))))))

@@ -55,7 +55,7 @@ letters-more : (unicode .more 0x72 ≡ true) × (unicode .more 0x61 ≡ true) ×
 unfolding unicode xidContinue inTable
 letters-more = (refl, refl, refl, refl)
 
-advance-p : (profile : ℕ) (t : List ℕ) → advance unicode profile 0x70 t ≡ record { kind = word unicode profile 0x70 t .0; fromSuffix = 0x70 ∷ t; rest = word unicode profile 0x70 t .1 }
+advance-p : (profile : ℕ) (t : List ℕ) → advance unicode profile 0x70 t ≡ record { kind = word (unicode .more) (unicode .emoji) profile 0x70 t .0; fromSuffix = 0x70 ∷ t; rest = word (unicode .more) (unicode .emoji) profile 0x70 t .1 }
 unfolding advance
 advance-p profile t = rw (p-space, p-start)
 
@@ -64,7 +64,7 @@ module _ (r : List ℕ) where
   abbrev letters : List ℕ
   letters = 0x72 ∷ 0x61 ∷ 0x67 ∷ 0x6D ∷ 0x61 ∷ r
 
-  name-letters : name unicode letters ≡ name unicode r
+  name-letters : name (unicode .more) (unicode .emoji) letters ≡ name (unicode .more) (unicode .emoji) r
   unfolding name
   name-letters =
       let m = letters-more in
@@ -77,23 +77,23 @@ module _ (r : List ℕ) where
       rw e
 
   -- under profile 0 an Ident or InvalidIdent of at least six bytes
-  name-kind : (eqb (name unicode r .0) ident || eqb (name unicode r .0) invalidIdent) ≡ true
+  name-kind : (eqb (name (unicode .more) (unicode .emoji) r .0) ident || eqb (name (unicode .more) (unicode .emoji) r .0) invalidIdent) ≡ true
   unfolding name
   name-kind =
-      on-cond (λ (x : ℕ × List ℕ). (eqb (x .0) ident || eqb (x .0) invalidIdent) ≡ true) (wideEmoji unicode (peek (skip (unicode .more) r))) refl refl
+      on-cond (λ (x : ℕ × List ℕ). (eqb (x .0) ident || eqb (x .0) invalidIdent) ≡ true) (wideEmoji (unicode .emoji) (peek (skip (unicode .more) r))) refl refl
 
-  zero-is : nextToken unicode 0 0x70 letters .0 ≡ record { kind = name unicode r .0; len = byteLength (0x70 ∷ letters) - byteLength (name unicode r .1); suffix = byteLength (0x70 ∷ letters) - byteLength (0x70 ∷ letters) }
+  zero-is : nextToken unicode 0 0x70 letters .0 ≡ record { kind = name (unicode .more) (unicode .emoji) r .0; len = byteLength (0x70 ∷ letters) - byteLength (name (unicode .more) (unicode .emoji) r .1); suffix = byteLength (0x70 ∷ letters) - byteLength (0x70 ∷ letters) }
   unfolding nextToken word
   zero-is = rw (advance-p 0 letters, name-letters)
 
-  zero-long : 6 ≤ byteLength (0x70 ∷ letters) - byteLength (name unicode r .1)
+  zero-long : 6 ≤ byteLength (0x70 ∷ letters) - byteLength (name (unicode .more) (unicode .emoji) r .1)
   unfolding byteLength width
   zero-long = omega (arith, ends-bytes (name-part unicode r .ends))
 
   zero-bare : (s : List ℕ) → chars s ≡ 0x70 ∷ letters → bare s (nextToken unicode 0 0x70 letters .0) ≡ true
   unfolding agree
   zero-bare s e =
-      let n = byteLength (0x70 ∷ letters) - byteLength (name unicode r .1) in
+      let n = byteLength (0x70 ∷ letters) - byteLength (name (unicode .more) (unicode .emoji) r .1) in
       let six : agree pragmaWord s ≡ 6 = sym (pragma-agrees s) ∙ ap (agree pragmaWord) e in
       let h : agree pragmaWord (take n s) ≡ 6 = omega (arith, agree-take pragmaWord n s, zero-long) in
       rw (zero-is, name-kind) (eq-eqb (agree pragmaWord (take n s)) 6 h)
