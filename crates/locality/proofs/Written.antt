@@ -10,7 +10,6 @@ use Rattle.lists.specs.All.{all}
 use Rattle.lists.proofs.All.{all-append}
 use Rattle.lists.proofs.Bools.{by-test}
 use Rattle.unicode.specs.Utf8.{chars, isScalar, encodeAll}
-use Rattle.unicode.specs.Text.{byteLength}
 use Rattle.unicode.proofs.Valid.{encode-append, encode-bytes, read-all}
 use Rattle.lexer.specs.Cut.{Letters, Token, tokens}
 use Rattle.lexer.specs.Unicode.{unicode}

@@ -2,16 +2,17 @@
 -- Assumes nothing.
 use Prim.Native.Nat.{ℕ, _/_, _≤_, _<_}
 use native.Mathlib.Omega.{arith}
-use native.Mathlib.Nat.{zero-add}
 use mathlib.Core.Path.{_≡_, refl, sym, subst, _∙_}
 use mathlib.Core.Bool.{true, false}
-use mathlib.Core.List.{List, _++_}
+use mathlib.Core.List.{List}
 use lib.Dec.{eqb, ltb}
 use lib.ListN.{length, take, drop}
-use lib.Seq.{sets, sets-eq, take-append-seam}
-use borrow.Author.Tests.{lt-ltb, le-ltb, eq-eqb, ne-eqb, eqb-true}
+use lib.Seq.{take-append-seam}
+use borrow.Author.Tests.{eq-eqb, eqb-true}
 use Rattle.lists.proofs.Bools.{by-test, on-cond}
 use Rattle.text.specs.Answer.{Answered, done, roomTooSmall, checkCut}
+use Rattle.text.specs.Steps.{Entered}
+use Rattle.text.proofs.Room as room
 use Rattle.lexer.specs.Cut.{Letters, Token}
 use Rattle.unicode.specs.Ranges.{flat}
 use Rattle.ucd.specs.Ucd.{xidStart, xidContinue, emoji}
@@ -21,43 +22,33 @@ use Rattle.lexer.proofs.Unicode.{lent-is}
 use Rattle.tokens.specs.Members.{membersOf}
 use Rattle.renewal.specs.Key.{keyBy, keyOfText}
 use Rattle.renewal.specs.Promises.{answerOf, keyed, Keyed}
-use Rattle.renewal.specs.Steps.{Walked, Stored}
+use Rattle.renewal.specs.Steps.{Walked, StoredKey}
 use Rattle.renewal.proofs.Keyable.{keyable}
 use Rattle.renewal.proofs.Runs.{key-few-by}
 use Rattle.renewal.proofs.Exactly.{exactly-when}
 
 -- ---- for a text that passed the checks
-stored-bytes : (bytes key : List ℕ) {key′ : List ℕ} → key′ ≡ sets key 0 bytes → length bytes ≤ length key → key′ ≡ bytes ++ drop (length bytes) key
-stored-bytes bytes key e l = e ∙ sets-eq bytes key 0 (omega (arith, l)) ∙ (rw zero-add)
-
 -- room for eleven bytes for each byte of the text is enough
 pub room-enough : (u : Letters) (profile : ℕ) (s key : List ℕ) → length s ≤ length key / 11 → length (keyBy (tokensBy u profile) s) ≤ length key
 room-enough u profile s key l = omega (arith, key-few-by (keyable u profile) s)
 
 module _ (cutter : List ℕ → List Token) {s key key′ : List ℕ} {n number also : ℕ} where
-  stored : Walked cutter s true key n key′ → n ≤ length key → number ≡ done → also ≡ n → Stored cutter s key number also key′
-  stored w l k a =
-      record {
-        answer = rw (← w .size, le-ltb (length key) n l) (record { number-is = k; also-is = a });
-        key-is = rw k (stored-bytes (keyBy cutter s) key (w .key-is) (omega (arith, w .size)));
-      }
+  stored : Walked cutter s true key n key′ → n ≤ length key → number ≡ done → also ≡ n → StoredKey cutter s key number also key′
+  stored w l k a = room.stored-all (omega (arith, w .size)) (omega (arith, w .size)) (w .key-is) k (omega (arith, w .size))
 
-  pub stored-all : Walked cutter s true key n key′ → length s ≤ length key / 11 → number ≡ done → also ≡ n → Stored cutter s key number also key′
+  pub stored-all : Walked cutter s true key n key′ → length s ≤ length key / 11 → number ≡ done → also ≡ n → StoredKey cutter s key number also key′
   stored-all w l k a = stored w (omega (arith, w .few)) k a
 
-  pub stored-none : Walked cutter s false key n key′ → length key′ < n → number ≡ roomTooSmall → also ≡ n → Stored cutter s key number also key′
+  pub stored-none : Walked cutter s false key n key′ → length key′ < n → number ≡ roomTooSmall → also ≡ n → StoredKey cutter s key number also key′
   stored-none w l k a =
       let h : length key < n = rw (w .key-is) at l in
-      record {
-        answer = rw (← w .size, lt-ltb (length key) n h) (record { number-is = k; also-is = a });
-        key-is = rw k (w .key-is);
-      }
+      room.stored-none (omega (arith, h, w .size)) (w .key-is) k (omega (arith, w .size))
 
 -- sized first, and then written
 pub room-sized : {cutter : List ℕ → List Token} {s key key′ : List ℕ} {n : ℕ} → Walked cutter s false key n key′ → n ≤ length key′ → length (keyBy cutter s) ≤ length key′
 room-sized w l = omega (arith, w .size)
 
-pub stored-twice : (cutter : List ℕ → List Token) {s key key′ key″ : List ℕ} {n m number also : ℕ} → Walked cutter s false key n key′ → n ≤ length key′ → Walked cutter s true key′ m key″ → number ≡ done → also ≡ n → Stored cutter s key number also key″
+pub stored-twice : (cutter : List ℕ → List Token) {s key key′ key″ : List ℕ} {n m number also : ℕ} → Walked cutter s false key n key′ → n ≤ length key′ → Walked cutter s true key′ m key″ → number ≡ done → also ≡ n → StoredKey cutter s key number also key″
 stored-twice cutter {s} {key} {key′} {key″} {n} {m} v l w k a =
     let e : key′ ≡ key = v .key-is in
     let w′ : Walked cutter s true key m key″ = rw e at w in
@@ -65,22 +56,20 @@ stored-twice cutter {s} {key} {key′} {key″} {n} {m} v l w k a =
     stored cutter w′ (omega (arith, v .size, w .size, h)) k (omega (arith, v .size, w .size))
 
 -- over the constant tables
-pub lent-stored : (profile : ℕ) {number also : ℕ} {s key key′ : List ℕ} → Stored (tokensBy (lent (flat xidStart) (flat xidContinue) (flat emoji)) profile) s key number also key′ → Stored (tokensOf profile) s key number also key′
+pub lent-stored : (profile : ℕ) (s : List ℕ) {number also : ℕ} {key key′ : List ℕ} → StoredKey (tokensBy (lent (flat xidStart) (flat xidContinue) (flat emoji)) profile) s key number also key′ → StoredKey (tokensOf profile) s key number also key′
 unfolding tokensOf
-lent-stored profile {number} {also} {s} {key} {key′} r = subst (λ (u : Letters). Stored (tokensBy u profile) s key number also key′) lent-is r
+lent-stored profile s {number} {also} {key} {key′} r = subst (λ (u : Letters). StoredKey (tokensBy u profile) s key number also key′) lent-is r
 
 -- ---- the whole
-pub keyed-refused : {s key key′ : List ℕ} {profile number also : ℕ} → Answered (checkCut s profile) number also → (number ≡ done → ⊥) → key′ ≡ key → Keyed s profile key number also key′
-unfolding answerOf keyed
-keyed-refused {s} {key} {key′} {profile} a n e =
-    let h : eqb (checkCut s profile .0) done ≡ false = ne-eqb _ _ (λ z. n (a .number-is ∙ z)) in
-    record { answer = rw h a; key-is = rw (h, h) e }
-
-pub keyed-done : {s key key′ : List ℕ} {profile n₀ a₀ number also : ℕ} → Answered (checkCut s profile) n₀ a₀ → n₀ ≡ done → Stored (tokensOf profile) s key number also key′ → Keyed s profile key number also key′
+keyed-by : {s key key′ : List ℕ} {profile number also : ℕ} → Entered (checkCut s profile) (length key) (length (keyBy (tokensOf profile) s)) (keyBy (tokensOf profile) s) key number also key′ → Keyed s profile key number also key′
 unfolding answerOf keyed keyOfText membersOf keyBy
-keyed-done {s} {key} {key′} {profile} c z r =
-    let h : eqb (checkCut s profile .0) done ≡ true = eq-eqb _ _ (sym (c .number-is) ∙ z) in
-    record { answer = rw h (r .answer); key-is = rw (h, ← r .answer .number-is) (r .key-is) }
+keyed-by e = record { answer = e .answer; key-is = e .memory }
+
+pub keyed-refused : {s key key′ : List ℕ} {profile number also : ℕ} → Answered (checkCut s profile) number also → (number ≡ done → ⊥) → key′ ≡ key → Keyed s profile key number also key′
+keyed-refused a n e = keyed-by (room.refused a n e)
+
+pub keyed-done : {s key key′ : List ℕ} {profile n₀ a₀ number also : ℕ} → Answered (checkCut s profile) n₀ a₀ → n₀ ≡ done → StoredKey (tokensOf profile) s key number also key′ → Keyed s profile key number also key′
+keyed-done c z r = keyed-by (room.passed c z r)
 
 -- ---- what a call that is done has written: the key of an accepted text
 pub done-accepted : {s : List ℕ} {profile : ℕ} {key : List ℕ} {a : ℕ} {key′ : List ℕ} → Keyed s profile key done a key′ → checkCut s profile .0 ≡ done

@@ -7,9 +7,9 @@ use Prim.Native.Nat.{ℕ, zero, suc, _+_, _*_, _/_, _≤_}
 use lib.Dec.{eqb}
 use lib.ListN.{length, take, drop, getD}
 use lib.Seq.{sets}
-use Rattle.lists.specs.Over.{over}
 use Rattle.lists.specs.Steps.{valuesFrom}
-use Rattle.text.specs.Answer.{Answered, done, longest, checkRoom}
+use Rattle.text.specs.Answer.{longest}
+use Rattle.text.specs.Steps.{Stored}
 use Rattle.lexer.specs.Cut.{Token, total}
 use Rattle.tokens.specs.Members.{Member}
 use Rattle.renewal.specs.Key.{noBody, bodyLength, encode, keyBy}
@@ -76,6 +76,5 @@ pub record Walked (cutter : List ℕ → List Token) (s : List ℕ) (write : Boo
   pub key-is : key′ ≡ cond write (sets key 0 (keyBy cutter s)) key
 
 -- the answer for a text that passed the checks, and the key
-pub record Stored (cutter : List ℕ → List Token) (s key : List ℕ) (number also : ℕ) (key′ : List ℕ) : Type 0 where
-  pub answer : Answered (checkRoom (length key) (length (keyBy cutter s))) number also
-  pub key-is : key′ ≡ cond (eqb number done) (over (keyBy cutter s) key) key
+abbrev pub StoredKey : (List ℕ → List Token) → List ℕ → List ℕ → ℕ → ℕ → List ℕ → Type 0
+StoredKey cutter s key number also key′ = Stored (length key) (length (keyBy cutter s)) (keyBy cutter s) key number also key′

@@ -7,7 +7,7 @@ ghost use Rattle.text.specs.Answer.{longest};
 ghost use Rattle.lexer.specs.Promises.{tokensOf, tokensBy};
 ghost use Rattle.lexer.specs.Unicode.{lent};
 ghost use Rattle.renewal.specs.Key.{keyBy};
-ghost use Rattle.renewal.specs.Steps.{bodies, Walked, Stored};
+ghost use Rattle.renewal.specs.Steps.{bodies, Walked, StoredKey};
 use crate::records::put_members;
 use crate::table;
 use lexer::list::cut_run;
@@ -51,7 +51,7 @@ fn store(
     emoji: &[u32],
 ) -> Answer
     requires { ⌜ (length (now text) ≤ longest) × (now body ≡ bodies) ⌝ }
-    ensures { λ r. ⌜ Stored (tokensBy (lent (now (start .entry)) (now (more .entry)) (now (emoji .entry))) profile) (now (text .entry)) (now (key .entry)) (r .number) (r .also) (now (key .exit)) ⌝ }
+    ensures { λ r. ⌜ StoredKey (tokensBy (lent (now (start .entry)) (now (more .entry)) (now (emoji .entry))) profile) (now (text .entry)) (now (key .entry)) (r .number) (r .also) (now (key .exit)) ⌝ }
 {
     if text.len() <= key.len() / 11 {
         let n = walk(text, profile, true, key, body, start, more, emoji);
@@ -77,7 +77,7 @@ fn store(
 // Lends the tables, once for the whole text.
 pub fn lend(text: &[u8], profile: u32, key: &mut [u8]) -> Answer
     requires { ⌜ length (now text) ≤ longest ⌝ }
-    ensures { λ r. ⌜ Stored (tokensOf profile) (now (text .entry)) (now (key .entry)) (r .number) (r .also) (now (key .exit)) ⌝ }
+    ensures { λ r. ⌜ StoredKey (tokensOf profile) (now (text .entry)) (now (key .entry)) (r .number) (r .also) (now (key .exit)) ⌝ }
 {
     store(
         text,

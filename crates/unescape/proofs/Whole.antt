@@ -13,7 +13,7 @@ use Rattle.lists.specs.Eat.{eat}
 use Rattle.lists.specs.Steps.{PutIf, Ends}
 use Rattle.lists.proofs.Bools.{by-test, on-cond}
 use Rattle.lists.proofs.Cut.{cut-nil, cut-cons, by-length}
-use Rattle.lists.proofs.Store.{Storing, storing-none, storing-on, storing-end, stored-front}
+use Rattle.lists.proofs.Store.{Storing, storing-none, storing-on, storing-end}
 use Rattle.lists.proofs.Ends.{ends-all, ends-cons, ends-length, ends-eat}
 use Rattle.unicode.proofs.Text.{ends-bytes}
 use Rattle.unicode.specs.Utf8.{chars}
@@ -22,14 +22,16 @@ use Rattle.unicode.specs.Text.{byteLength, left}
 use Rattle.unicode.proofs.Text.{point-at, left-end, bytes-chars}
 use Rattle.unicode.proofs.Valid.{width-some}
 use Rattle.text.specs.Answer.{Answered, done, unknownSelector, roomTooSmall, longest, checkText}
+use Rattle.text.specs.Steps.{Entered}
 use Rattle.text.proofs.Checks.{accepted}
+use Rattle.text.proofs.Room as room
 use Rattle.unescape.specs.declared.escapes.Escape.{Escape}
 use Rattle.unescape.specs.declared.bodies.Step.{Step}
 use Rattle.modes.specs.Modes.{isRaw, isSingle, charactersShouldBeAscii, byteMode}
 use Rattle.modes.specs.Errors.{Outcome, error, number}
 use Rattle.unescape.specs.Escapes.{escape}
 use Rattle.unescape.specs.Bodies.{Item, given, charOrByte, strChar, rawChar, isSkipped, sawLf, item, one, unskipped, skipped, slashed, strCommon, rawStr, turn, turns, items, itemsOf, flat}
-use Rattle.unescape.specs.Steps.{endOf, stepOf, Scanned, onFirst, Stepped, wordsOf, Walked, Stored}
+use Rattle.unescape.specs.Steps.{endOf, stepOf, Scanned, onFirst, Stepped, wordsOf, Walked, StoredItems}
 use Rattle.unescape.specs.Promises.{answerOf, listed, Unescaped, part, single}
 use Rattle.unescape.proofs.Fair.{allows-any, escape-fair}
 use Rattle.unescape.proofs.Turns.{place-of}
@@ -231,31 +233,23 @@ module _ (mode : ℕ) (s : List ℕ) {write : Bool} {list list′ : List ℕ} {n
 
 -- ---- the answer of a body that passed the checks
 module _ {all : List Item} {list list′ : List ℕ} {n number also : ℕ} where
-  stored : Walked all true list n list′ → n ≤ length list / 3 → number ≡ done → also ≡ n → Stored all list number also list′
-  stored w l k a =
-      let f = length-flat all in
-      record {
-        answer = rw (← w .count, le-ltb (length list / 3) n l) (record { number-is = k; also-is = a });
-        words = rw k (stored-front (flat all) list (w .words) (omega (arith, f, w .count)));
-      }
+  stored : Walked all true list n list′ → n ≤ length list / 3 → number ≡ done → also ≡ n → StoredItems all list number also list′
+  stored w l k a = room.stored-all (omega (arith, w .count)) (omega (arith, length-flat all, w .count)) (w .words) k (omega (arith, w .count))
 
-  pub stored-short : Walked all false list n list′ → length list′ / 3 < n → number ≡ roomTooSmall → also ≡ n → Stored all list number also list′
+  pub stored-short : Walked all false list n list′ → length list′ / 3 < n → number ≡ roomTooSmall → also ≡ n → StoredItems all list number also list′
   stored-short w l k a =
       let h : length list / 3 < n = rw (w .words) at l in
-      record {
-        answer = rw (← w .count, lt-ltb (length list / 3) n h) (record { number-is = k; also-is = a });
-        words = rw k (w .words);
-      }
+      room.stored-none (omega (arith, h, w .count)) (w .words) k (omega (arith, w .count))
 
 module _ {all : List Item} {list list′ : List ℕ} {n number also : ℕ} where
-  pub stored-twice : {m : ℕ} {list″ : List ℕ} → Walked all false list n list′ → n ≤ length list′ / 3 → Walked all true list′ m list″ → number ≡ done → also ≡ n → Stored all list number also list″
+  pub stored-twice : {m : ℕ} {list″ : List ℕ} → Walked all false list n list′ → n ≤ length list′ / 3 → Walked all true list′ m list″ → number ≡ done → also ≡ n → StoredItems all list number also list″
   stored-twice {m} {list″} v l w k a =
       let e : list′ ≡ list = v .words in
       let w′ : Walked all true list m list″ = rw e at w in
       let h : n ≤ length list / 3 = rw e at l in
       stored w′ (omega (arith, v .count, w .count, h)) k (omega (arith, v .count, w .count))
 
-pub stored-all : (mode : ℕ) (s : List ℕ) {list list′ : List ℕ} {n number also : ℕ} → Walked (itemsOf mode s) true list n list′ → length s < length list / 3 → number ≡ done → also ≡ n → Stored (itemsOf mode s) list number also list′
+pub stored-all : (mode : ℕ) (s : List ℕ) {list list′ : List ℕ} {n number also : ℕ} → Walked (itemsOf mode s) true list n list′ → length s < length list / 3 → number ≡ done → also ≡ n → StoredItems (itemsOf mode s) list number also list′
 stored-all mode s w l k a = stored w (omega (arith, w .count, few-items mode s)) k a
 
 pub room-enough : (mode : ℕ) (s list : List ℕ) → length s < length list / 3 → length (flat (itemsOf mode s)) ≤ length list
@@ -276,19 +270,16 @@ module _ {s list list′ : List ℕ} {mode number also : ℕ} where
       record { answer = rw k (record { number-is = n; also-is = a }); words = rw k e }
 
   module _ (h : mode < 7) {n₀ a₀ : ℕ} (c : Answered (checkText s) n₀ a₀) where
-    pub unescaped-refused : (n₀ ≡ done → ⊥) → number ≡ n₀ → also ≡ a₀ → list′ ≡ list → Unescaped s mode list number also list′
+    behind : Entered (checkText s) (length list / 3) (length (itemsOf mode s)) (flat (itemsOf mode s)) list number also list′ → Unescaped s mode list number also list′
     unfolding answerOf listed
-    unescaped-refused x n a e =
-        let k = lt-ltb mode 7 h in
-        let z : eqb (checkText s .0) done ≡ false = ne-eqb _ _ (λ y. x (c .number-is ∙ y)) in
-        record { answer = rw (k, z) (record { number-is = n ∙ c .number-is; also-is = a ∙ c .also-is }); words = rw (k, z, z) e }
+    behind e = let k = lt-ltb mode 7 h in record { answer = rw k (e .answer); words = rw k (e .memory) }
 
-    pub unescaped-done : n₀ ≡ done → Stored (itemsOf mode s) list number also list′ → Unescaped s mode list number also list′
-    unfolding answerOf listed
-    unescaped-done x r =
-        let k = lt-ltb mode 7 h in
-        let z : eqb (checkText s .0) done ≡ true = eq-eqb _ _ (sym (c .number-is) ∙ x) in
-        record { answer = rw (k, z) (r .answer); words = rw (k, z, ← r .answer .number-is) (r .words) }
+    pub unescaped-refused : (n₀ ≡ done → ⊥) → number ≡ n₀ → also ≡ a₀ → list′ ≡ list → Unescaped s mode list number also list′
+    unescaped-refused x n a e =
+        behind (room.refused (record { number-is = n ∙ c .number-is; also-is = a ∙ c .also-is }) (λ z. x (sym n ∙ z)) e)
+
+    pub unescaped-done : n₀ ≡ done → StoredItems (itemsOf mode s) list number also list′ → Unescaped s mode list number also list′
+    unescaped-done x r = behind (room.passed c x r)
 
 pub text-short : (s : List ℕ) {n a : ℕ} → Answered (checkText s) n a → n ≡ done → length s ≤ longest
 text-short s c z = accepted s (sym (c .number-is) ∙ z) .short

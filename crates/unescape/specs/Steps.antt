@@ -4,14 +4,12 @@ use Prim.Native.Nat.{ℕ, _/_, _≤_, _<_}
 use mathlib.Core.Path.{_≡_}
 use mathlib.Core.Bool.{Bool, true, false, cond}
 use mathlib.Core.List.{List, [], _∷_, _++_}
-use lib.Dec.{eqb}
 use lib.ListN.{length}
 use lib.Seq.{sets}
-use Rattle.lists.specs.Over.{over}
 use Rattle.lists.specs.Steps.{valuesFrom}
 use Rattle.unicode.specs.Steps.{Place}
 use Rattle.unicode.specs.Text.{left}
-use Rattle.text.specs.Answer.{Answered, done, checkRoom}
+use Rattle.text.specs.Steps.{Stored}
 use Rattle.unescape.specs.declared.escapes.Escape.{Escape}
 use Rattle.unescape.specs.declared.escapes.Escape.the-variants.{Value, Error}
 use Rattle.unescape.specs.declared.bodies.Step.{Step}
@@ -83,6 +81,5 @@ pub record Walked (all : List Item) (write : Bool) (list : List ℕ) (n : ℕ) (
   pub words : list′ ≡ cond write (sets list 0 (flat all)) list
 
 -- the answer for a body that passed the checks, and the list
-pub record Stored (all : List Item) (list : List ℕ) (number also : ℕ) (list′ : List ℕ) : Type 0 where
-  pub answer : Answered (checkRoom (length list / 3) (length all)) number also
-  pub words : list′ ≡ cond (eqb number done) (over (flat all) list) list
+abbrev pub StoredItems : List Item → List ℕ → ℕ → ℕ → List ℕ → Type 0
+StoredItems all list number also list′ = Stored (length list / 3) (length all) (flat all) list number also list′

@@ -7,7 +7,7 @@ ghost use Rattle.lists.specs.Steps.{PutIf};
 ghost use Rattle.unicode.specs.Utf8.{chars};
 ghost use Rattle.text.specs.Answer.{longest};
 ghost use Rattle.unescape.specs.Bodies.{charOrByte, one, turns, itemsOf, flat};
-ghost use Rattle.unescape.specs.Steps.{wordsOf, Walked, Stored};
+ghost use Rattle.unescape.specs.Steps.{wordsOf, Walked, StoredItems};
 use crate::bodies::item;
 use crate::bodies::turn;
 use crate::bodies::unescape_char_or_byte;
@@ -89,7 +89,7 @@ fn walk(body: &[u8], mode: u32, write: bool, list: &mut [u32]) -> usize
 // that has room for more than that cannot be short, and nothing is counted first.
 pub fn store(body: &[u8], mode: u32, list: &mut [u32]) -> Answer
     requires { ⌜ length (now body) ≤ longest ⌝ }
-    ensures { λ r. ⌜ Stored (itemsOf mode (now (body .entry))) (now (list .entry)) (r .number) (r .also) (now (list .exit)) ⌝ }
+    ensures { λ r. ⌜ StoredItems (itemsOf mode (now (body .entry))) (now (list .entry)) (r .number) (r .also) (now (list .exit)) ⌝ }
 {
     if body.len() < list.len() / 3 {
         let n = walk(body, mode, true, list);

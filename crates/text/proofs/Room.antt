@@ -1,0 +1,36 @@
+-- The room, once: what an entry answers and leaves whose list has room for all, or has not; and with the checks before it.
+-- Assumes nothing.
+use mathlib.Core.Path.{_≡_, sym, _∙_}
+use mathlib.Core.Bool.{true, false}
+use mathlib.Core.List.{List}
+use Prim.Native.Nat.{ℕ, _≤_, _<_}
+use lib.Dec.{eqb}
+use lib.ListN.{length}
+use lib.Seq.{sets}
+use borrow.Author.Tests.{lt-ltb, le-ltb, eq-eqb, ne-eqb}
+use Rattle.lists.proofs.Store.{stored-front}
+use Rattle.text.specs.Answer.{Answered, done, roomTooSmall}
+use Rattle.text.specs.Steps.{Stored, Entered}
+
+module _ {room need : ℕ} {new list list′ : List ℕ} {number also : ℕ} where
+  -- there is room for all, and all are stored from the front on
+  pub stored-all : need ≤ room → length new ≤ length list → list′ ≡ sets list 0 new → number ≡ done → also ≡ need → Stored room need new list number also list′
+  stored-all h l e k a =
+      record { answer = rw (le-ltb room need h) (record { number-is = k; also-is = a }); memory = rw k (stored-front new list e l) }
+
+  -- there is too little, and nothing is stored
+  pub stored-none : room < need → list′ ≡ list → number ≡ roomTooSmall → also ≡ need → Stored room need new list number also list′
+  stored-none h e k a =
+      record { answer = rw (lt-ltb room need h) (record { number-is = k; also-is = a }); memory = rw k e }
+
+-- ---- with the checks before it
+module _ {check : ℕ × ℕ} {room need : ℕ} {new list list′ : List ℕ} {number also : ℕ} where
+  pub refused : Answered check number also → (number ≡ done → ⊥) → list′ ≡ list → Entered check room need new list number also list′
+  refused a n e =
+      let h : eqb (check .0) done ≡ false = ne-eqb _ _ (λ z. n (a .number-is ∙ z)) in
+      record { answer = rw h a; memory = rw (h, h) e }
+
+  pub passed : {n₀ a₀ : ℕ} → Answered check n₀ a₀ → n₀ ≡ done → Stored room need new list number also list′ → Entered check room need new list number also list′
+  passed c z r =
+      let h : eqb (check .0) done ≡ true = eq-eqb _ _ (sym (c .number-is) ∙ z) in
+      record { answer = rw h (r .answer); memory = rw (h, ← r .answer .number-is) (r .memory) }
