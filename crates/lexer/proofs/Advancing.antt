@@ -4,16 +4,20 @@ use Prim.Native.Nat.{ℕ, _+_, _-_, _≤_, _<_, min, max}
 use native.Mathlib.Decide.{decLt}
 use native.Mathlib.Omega.{arith}
 use mathlib.Core.Path.{_≡_, refl, ap, sym, _∙_}
-use mathlib.Core.Bool.{Bool, true, false}
+use mathlib.Core.Bool.{Bool, true, false, false≢true}
 use mathlib.Core.List.{List, _∷_}
 use lib.ListN.{length}
-use borrow.Author.Tests.{eq-eqb, ne-eqb}
+use borrow.Author.Tests.{ne-eqb}
+use Rattle.unicode.specs.Ranges.{inTable}
 use Rattle.unicode.specs.Text.{Decoded, Place, left, skip}
 use Rattle.unicode.proofs.Text.{decoded-point, from-place}
-use Rattle.letters.specs.Chars.{isWhitespace}
+use Rattle.ucd.specs.Properties.{asciiStart, testedIn}
+use Rattle.letters.specs.Chars.{whitespace, isWhitespace}
 use Rattle.lexer.specs.Kinds.{eof, whitespaceKind, invalidIdent, unknown, marks, markIn}
 use Rattle.lexer.specs.Cut.{Letters, Token, isDigit, slash, number, suffix, identifier, quoted, quoteKind, word, pound, annotated, hardware, wideEmoji, goesOn, advance, token}
-use Rattle.lexer.specs.Steps.{Parted, Quoted, Stands, Later, Single, Cuts, Advanced}
+use Rattle.lexer.specs.Unicode.{startIn, moreIn, emojiIn, lent}
+use Rattle.lexer.specs.Steps.{Parted, Quoted, Stands, Lettered, Plainly, Cuts, Advanced}
+use Rattle.lexer.proofs.Dispatch.{Late, digit-early, late-beyond}
 
 pub stands : {s : List ℕ} {at code wide next : ℕ} → Decoded s at code wide → at < length s → next ≡ at + wide → Stands s at code next
 stands d l u =
@@ -46,94 +50,85 @@ module _ (u : Letters) (profile : ℕ) {s : List ℕ} {at c next : ℕ} (v : Sta
   part : {f : List ℕ → ℕ × List ℕ} {kind end : ℕ} → advance u profile c (left s next) ≡ record { kind = f (left s next) .0; suff = c ∷ left s next; rest = f (left s next) .1 } → Parted f s next kind end → Cuts u profile s at kind at end
   part {f} e p = cuts (record { kind = f (left s next) .0; suff = c ∷ left s next; rest = f (left s next) .1 }) e (p .what) own (p .place)
 
-  pub cut-slash : {kind end : ℕ} → c ≡ 0x2F → Parted slash s next kind end → Cuts u profile s at kind at end
+  -- a token of one character, by what is computed of it
+  pub cut-key : (m k : ℕ) → c ≡ m → ((t : List ℕ) → advance u profile m t ≡ record { kind = k; suff = m ∷ t; rest = t }) → Cuts u profile s at k at next
+  cut-key m k e f =
+      cuts (record { kind = k; suff = c ∷ left s next; rest = left s next }) (rw e (f (left s next))) refl own
+      (record { after = omega arith; within = v .within; there = refl })
+
+-- ---- over lent tables: of ASCII the ranges decide, whatever the tables hold
+module _ (start more emoji : List ℕ) (profile : ℕ) {s : List ℕ} {at c next : ℕ} (v : Stands s at c next) where
+  pub cut-slash : {kind end : ℕ} → c ≡ 0x2F → Parted slash s next kind end → Cuts (lent start more emoji) profile s at kind at end
   unfolding advance
-  cut-slash e p = part (rw (eq-eqb c 0x2F e)) p
+  cut-slash e p = part (lent start more emoji) profile v (rw e) p
 
-  pub cut-space : {kind end : ℕ} {b : Bool} → (c ≡ 0x2F → ⊥) → b ≡ isWhitespace c → b ≡ true → Place s next end (skip isWhitespace (left s next)) → kind ≡ whitespaceKind → Cuts u profile s at kind at end
+  pub cut-space : {end : ℕ} → isWhitespace c ≡ true → Place s next end (skip isWhitespace (left s next)) → Cuts (lent start more emoji) profile s at whitespaceKind at end
+  unfolding advance whitespace inTable
+  cut-space h p =
+      let n : c ≡ 0x2F → ⊥ = λ e. false≢true (rw e at h) in
+      cuts (lent start more emoji) profile v (record { kind = whitespaceKind; suff = c ∷ left s next; rest = skip isWhitespace (left s next) }) (rw (ne-eqb c 0x2F n, h)) refl (own (lent start more emoji) profile v) p
+
+  pub cut-word : {kind end : ℕ} {b : Bool} → Lettered c → b ≡ startIn start c → b ≡ true → Parted (word (moreIn more) (emojiIn emoji) profile c) s next kind end → Cuts (lent start more emoji) profile s at kind at end
+  unfolding advance asciiStart inTable
+  cut-word y o t p =
+      let n : c ≡ 0x2F → ⊥ = λ e. false≢true (rw e at (y .low (omega arith))) in
+      part (lent start more emoji) profile v (rw (ne-eqb c 0x2F n, y .no-space, sym o ∙ t)) p
+
+  pub cut-number : {kind suff end : ℕ} → isDigit c ≡ true → Parted (number c) s next kind suff → Place s suff end (suffix (startIn start) (moreIn more) (left s suff)) → Cuts (lent start more emoji) profile s at kind suff end
   unfolding advance
-  cut-space n o t p k =
-      cuts (record { kind = whitespaceKind; suff = c ∷ left s next; rest = skip isWhitespace (left s next) }) (rw (ne-eqb c 0x2F n, sym o ∙ t)) k own p
+  cut-number h p q =
+      let n = number c (left s next) in
+      let y = digit-early start h in
+      cuts (lent start more emoji) profile v (record { kind = n .0; suff = n .1; rest = suffix (startIn start) (moreIn more) (n .1) }) (rw (y .no-slash, y .no-space, y .no-name, h)) (p .what)
+      (behind (lent start more emoji) profile v (p .place)) (from-place (p .place) q (ap (suffix (startIn start) (moreIn more)) (p .place .there)))
 
-  pub cut-word : {kind end : ℕ} {b : Bool} → (c ≡ 0x2F → ⊥) → isWhitespace c ≡ false → b ≡ u .start c → b ≡ true → Parted (word (u .more) (u .emoji) profile c) s next kind end → Cuts u profile s at kind at end
-  unfolding advance
-  cut-word n h o t p = part (rw (ne-eqb c 0x2F n, h, sym o ∙ t)) p
+  pub cut-closed : {b : Bool} {kind suff end : ℕ} → c ≡ 0x22 → Quoted s next b kind suff → b ≡ true → Place s suff end (identifier (startIn start) (moreIn more) (left s suff)) → Cuts (lent start more emoji) profile s at kind suff end
+  unfolding advance whitespace inTable testedIn asciiStart isDigit marks markIn
+  cut-closed e q t p =
+      let r = quoted (left s next) in
+      let h : r .closed ≡ true = sym (q .flag) ∙ t in
+      cuts (lent start more emoji) profile v (record { kind = quoteKind r; suff = r .rest; rest = identifier (startIn start) (moreIn more) (r .rest) }) (rw (e, h)) (q .what)
+      (behind (lent start more emoji) profile v (q .place)) (from-place (q .place) p (ap (identifier (startIn start) (moreIn more)) (q .place .there)))
 
-  module _ (y : Later u c) where
-    pub cut-number : {kind suff end : ℕ} → isDigit c ≡ true → Parted (number c) s next kind suff → Place s suff end (suffix (u .start) (u .more) (left s suff)) → Cuts u profile s at kind suff end
+  pub cut-unclosed : {b : Bool} {kind suff : ℕ} → c ≡ 0x22 → Quoted s next b kind suff → b ≡ false → Cuts (lent start more emoji) profile s at kind suff suff
+  unfolding advance whitespace inTable testedIn asciiStart isDigit marks markIn
+  cut-unclosed e q t =
+      let r = quoted (left s next) in
+      let h : r .closed ≡ false = sym (q .flag) ∙ t in
+      cuts (lent start more emoji) profile v (record { kind = quoteKind r; suff = r .rest; rest = r .rest }) (rw (e, h)) (q .what)
+      (behind (lent start more emoji) profile v (q .place)) (q .place)
+
+  pub cut-pound : {kind end : ℕ} → c ≡ 0x23 → Parted pound s next kind end → Cuts (lent start more emoji) profile s at kind at end
+  unfolding advance whitespace inTable testedIn asciiStart isDigit
+  cut-pound e p = part (lent start more emoji) profile v (rw e) p
+
+  pub cut-annotated : {kind end : ℕ} → c ≡ 0x40 → Parted (annotated (startIn start)) s next kind end → Cuts (lent start more emoji) profile s at kind at end
+  unfolding advance whitespace inTable testedIn asciiStart isDigit
+  cut-annotated e p = part (lent start more emoji) profile v (rw e) p
+
+  pub cut-hardware : {kind end : ℕ} → c ≡ 0x24 → Parted (hardware (moreIn more) (emojiIn emoji)) s next kind end → Cuts (lent start more emoji) profile s at kind at end
+  unfolding advance whitespace inTable testedIn asciiStart isDigit
+  cut-hardware e p = part (lent start more emoji) profile v (rw e) p
+
+  -- what none of the tests before takes
+  module _ (y : Late start c) where
+    pub cut-emoji : {b : Bool} {end : ℕ} → b ≡ wideEmoji (emojiIn emoji) c → b ≡ true → Place s next end (skip (goesOn (moreIn more) (emojiIn emoji)) (left s next)) → Cuts (lent start more emoji) profile s at invalidIdent at end
     unfolding advance
-    cut-number h p q =
-        let n = number c (left s next) in
-        cuts (record { kind = n .0; suff = n .1; rest = suffix (u .start) (u .more) (n .1) }) (rw (ne-eqb c 0x2F (y .no-slash), y .no-space, y .no-name, h)) (p .what)
-        (behind (p .place)) (from-place (p .place) q (ap (suffix (u .start) (u .more)) (p .place .there)))
+    cut-emoji f t p =
+        cuts (lent start more emoji) profile v (record { kind = invalidIdent; suff = c ∷ left s next; rest = skip (goesOn (moreIn more) (emojiIn emoji)) (left s next) })
+        (rw (y .early .no-slash, y .early .no-space, y .early .no-name, y .no-digit, y .no-pound, y .no-at, y .no-dollar, y .no-mark, y .no-quote, sym f ∙ t))
+        refl (own (lent start more emoji) profile v) p
 
-    pub cut-pound : {kind end : ℕ} → isDigit c ≡ false → c ≡ 0x23 → Parted pound s next kind end → Cuts u profile s at kind at end
+    pub cut-unknown : {b : Bool} → b ≡ wideEmoji (emojiIn emoji) c → b ≡ false → Cuts (lent start more emoji) profile s at unknown at next
     unfolding advance
-    cut-pound h e p = part (rw (ne-eqb c 0x2F (y .no-slash), y .no-space, y .no-name, h, eq-eqb c 0x23 e)) p
+    cut-unknown f t =
+        cuts (lent start more emoji) profile v (record { kind = unknown; suff = c ∷ left s next; rest = left s next })
+        (rw (y .early .no-slash, y .early .no-space, y .early .no-name, y .no-digit, y .no-pound, y .no-at, y .no-dollar, y .no-mark, y .no-quote, sym f ∙ t))
+        refl (own (lent start more emoji) profile v) (record { after = omega arith; within = v .within; there = refl })
 
-    pub cut-annotated : {kind end : ℕ} → isDigit c ≡ false → c ≡ 0x40 → Parted (annotated (u .start)) s next kind end → Cuts u profile s at kind at end
-    unfolding advance
-    cut-annotated h e p =
-        part (rw (ne-eqb c 0x2F (y .no-slash), y .no-space, y .no-name, h, ne-eqb c 0x23 (λ z. omega arith), eq-eqb c 0x40 e)) p
-
-    pub cut-hardware : {kind end : ℕ} → isDigit c ≡ false → c ≡ 0x24 → Parted (hardware (u .more) (u .emoji)) s next kind end → Cuts u profile s at kind at end
-    unfolding advance
-    cut-hardware h e p =
-        part (rw (ne-eqb c 0x2F (y .no-slash), y .no-space, y .no-name, h, ne-eqb c 0x23 (λ z. omega arith), ne-eqb c 0x40 (λ z. omega arith), eq-eqb c 0x24 e)) p
-
-    pub cut-closed : {b : Bool} {kind suff end : ℕ} → c ≡ 0x22 → Quoted s next b kind suff → b ≡ true → Place s suff end (identifier (u .start) (u .more) (left s suff)) → Cuts u profile s at kind suff end
-    unfolding advance isDigit marks markIn
-    cut-closed e q t p =
-        let r = quoted (left s next) in
-        let h : r .closed ≡ true = sym (q .flag) ∙ t in
-        cuts (record { kind = quoteKind r; suff = r .rest; rest = identifier (u .start) (u .more) (r .rest) }) (rw (ne-eqb c 0x2F (y .no-slash), y .no-space, y .no-name, e, h)) (q .what)
-        (behind (q .place)) (from-place (q .place) p (ap (identifier (u .start) (u .more)) (q .place .there)))
-
-    pub cut-unclosed : {b : Bool} {kind suff : ℕ} → c ≡ 0x22 → Quoted s next b kind suff → b ≡ false → Cuts u profile s at kind suff suff
-    unfolding advance isDigit marks markIn
-    cut-unclosed e q t =
-        let r = quoted (left s next) in
-        let h : r .closed ≡ false = sym (q .flag) ∙ t in
-        cuts (record { kind = quoteKind r; suff = r .rest; rest = r .rest }) (rw (ne-eqb c 0x2F (y .no-slash), y .no-space, y .no-name, e, h)) (q .what)
-        (behind (q .place)) (q .place)
-
-  module _ (y : Single u c) {k : ℕ} (o : k ≡ markIn marks c) where
-    pub cut-mark : {kind end : ℕ} → (k ≡ 0 → ⊥) → kind ≡ k → end ≡ next → Cuts u profile s at kind at end
-    unfolding advance
-    cut-mark n e w =
-        let z = y .later in
-        cuts (record { kind = markIn marks c; suff = c ∷ left s next; rest = left s next })
-        (rw (ne-eqb c 0x2F (z .no-slash), z .no-space, z .no-name, y .no-digit, ne-eqb c 0x23 (y .no-pound), ne-eqb c 0x40 (y .no-at), ne-eqb c 0x24 (y .no-dollar), ne-eqb (markIn marks c) 0 (λ x. n (o ∙ x))))
-        (e ∙ o) own (rw w (record { after = omega arith; within = v .within; there = refl }))
-
-    pub cut-emoji : {b : Bool} {kind end : ℕ} → k ≡ 0 → (c ≡ 0x22 → ⊥) → b ≡ wideEmoji (u .emoji) c → b ≡ true → Place s next end (skip (goesOn (u .more) (u .emoji)) (left s next)) → kind ≡ invalidIdent → Cuts u profile s at kind at end
-    unfolding advance
-    cut-emoji n i f t p e =
-        let z = y .later in
-        cuts (record { kind = invalidIdent; suff = c ∷ left s next; rest = skip (goesOn (u .more) (u .emoji)) (left s next) })
-        (rw (ne-eqb c 0x2F (z .no-slash), z .no-space, z .no-name, y .no-digit, ne-eqb c 0x23 (y .no-pound), ne-eqb c 0x40 (y .no-at), ne-eqb c 0x24 (y .no-dollar), sym o ∙ n, ne-eqb c 0x22 i, sym f ∙ t))
-        e own p
-
-    pub cut-unknown : {b : Bool} {kind end : ℕ} → k ≡ 0 → (c ≡ 0x22 → ⊥) → b ≡ wideEmoji (u .emoji) c → b ≡ false → kind ≡ unknown → end ≡ next → Cuts u profile s at kind at end
-    unfolding advance
-    cut-unknown n i f t e w =
-        let z = y .later in
-        cuts (record { kind = unknown; suff = c ∷ left s next; rest = left s next })
-        (rw (ne-eqb c 0x2F (z .no-slash), z .no-space, z .no-name, y .no-digit, ne-eqb c 0x23 (y .no-pound), ne-eqb c 0x40 (y .no-at), ne-eqb c 0x24 (y .no-dollar), sym o ∙ n, ne-eqb c 0x22 i, sym f ∙ t))
-        e own (rw w (record { after = omega arith; within = v .within; there = refl }))
-
--- what the tests before said of c
-pub digit-yes : (c : ℕ) {b : Bool} → b ≡ isDigit c → b ≡ true → isDigit c ≡ true
-digit-yes c o t = sym o ∙ t
-
-pub digit-no : (c : ℕ) {b : Bool} → b ≡ isDigit c → b ≡ false → isDigit c ≡ false
-digit-no c o t = sym o ∙ t
-
-pub space-no : (c : ℕ) {b : Bool} → b ≡ isWhitespace c → b ≡ false → isWhitespace c ≡ false
-space-no c o t = sym o ∙ t
-
-pub later : {u : Letters} {c : ℕ} {b : Bool} → (c ≡ 0x2F → ⊥) → isWhitespace c ≡ false → b ≡ u .start c → b ≡ false → Later u c
-later n h o t = record { no-slash = n; no-space = h; no-name = sym o ∙ t }
+-- as it is told plainly
+pub told : {u : Letters} {profile : ℕ} {s : List ℕ} {at kind end kind′ suff′ end′ : ℕ} → Plainly at kind end kind′ suff′ end′ → Cuts u profile s at kind at end → Cuts u profile s at kind′ suff′ end′
+told p q = rw (p .what, p .start, p .place) q
 
 pub advanced : {u : Letters} {profile : ℕ} {s : List ℕ} {at kind suff end : ℕ} → at < length s → Cuts u profile s at kind suff end → Advanced u profile s at kind suff end
 advanced l c = record { before-end = λ h. c; at-end = λ h. absurd (omega arith) }
@@ -141,7 +136,7 @@ advanced l c = record { before-end = λ h. c; at-end = λ h. absurd (omega arith
 pub none-at-end : {u : Letters} {profile : ℕ} {s : List ℕ} {at kind suff end : ℕ} → length s ≤ at → kind ≡ eof → suff ≡ at → end ≡ at → Advanced u profile s at kind suff end
 none-at-end l k m e = record { before-end = λ h. absurd (omega arith); at-end = λ h. (k, m, e) }
 
-pub ruleset advancing = (stands, in-front, cut-slash, cut-space, cut-word, cut-number, cut-pound, cut-annotated, cut-hardware, cut-closed, cut-unclosed, cut-mark, cut-emoji, cut-unknown, digit-yes, digit-no, space-no, later, advanced, none-at-end)
+pub ruleset advancing = (stands, in-front, cut-slash, cut-space, cut-word, cut-number, cut-pound, cut-annotated, cut-hardware, cut-closed, cut-unclosed, cut-emoji, cut-unknown, late-beyond, told, advanced, none-at-end)
 
 -- ---- what `advance_token` says of places, at every place: rules for `omega`
 module _ (u : Letters) (profile : ℕ) (s : List ℕ) (at kind suff end : ℕ) (a : Advanced u profile s at kind suff end) where

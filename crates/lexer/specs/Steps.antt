@@ -2,17 +2,19 @@
 -- Assumes nothing.
 use Prim.Native.Nat.{ℕ, _+_, _/_, _≤_, _<_, min}
 use mathlib.Core.Path.{_≡_}
-use mathlib.Core.Bool.{Bool, false, cond, _&&_, _||_}
+use mathlib.Core.Bool.{Bool, true, false, cond, _&&_, _||_}
 use mathlib.Core.List.{List, _∷_}
 use lib.Dec.{eqb}
 use lib.ListN.{length, drop, getD}
 use lib.Seq.{sets}
 use Rattle.lists.specs.Over.{over}
 use Rattle.text.specs.Answer.{Answered, done, checkRoom}
+use Rattle.unicode.specs.Ranges.{inTable}
 use Rattle.unicode.specs.Text.{Place, left, skip}
+use Rattle.ucd.specs.Properties.{asciiStart}
 use Rattle.letters.specs.Chars.{isWhitespace}
 use Rattle.lexer.specs.Kinds.{eof}
-use Rattle.lexer.specs.Cut.{Letters, agree, isBit, isDigit, quoted, quoteKind, token, tokens, flat, total}
+use Rattle.lexer.specs.Cut.{Letters, agree, isBit, quoted, quoteKind, token, tokens, flat, total}
 use Rattle.lexer.specs.Outcome.{tokensBy, runFrom}
 
 -- a kind or a flag, and a place, by a definition that gives it and what is left
@@ -57,19 +59,16 @@ pub record Stands (s : List ℕ) (at c next : ℕ) : Type 0 where
   pub within : next ≤ length s
   pub view : left s at ≡ c ∷ left s next
 
--- c is no slash and no white space, and begins no identifier
-pub record Later (u : Letters) (c : ℕ) : Type 0 where
-  pub no-slash : (c ≡ 0x2F → ⊥)
+-- c is a letter of ASCII, an underscore, or a character beyond ASCII that is no white space
+pub record Lettered (c : ℕ) : Type 0 where
   pub no-space : isWhitespace c ≡ false
-  pub no-name : u .start c ≡ false
+  pub low : (c < 0x80 → (eqb c 0x5F || inTable c asciiStart) ≡ true)
 
--- nor is it a digit, #, @ or $
-pub record Single (u : Letters) (c : ℕ) : Type 0 where
-  pub later : Later u c
-  pub no-digit : isDigit c ≡ false
-  pub no-pound : (c ≡ 0x23 → ⊥)
-  pub no-at : (c ≡ 0x40 → ⊥)
-  pub no-dollar : (c ≡ 0x24 → ⊥)
+-- what is told of a token that is no literal, from `at` to `end`: its kind, where its suffix starts, and where it ends
+pub record Plainly (at kind end kind′ suff′ end′ : ℕ) : Type 0 where
+  pub what : kind′ ≡ kind
+  pub start : suff′ ≡ at
+  pub place : end′ ≡ end
 
 -- ---- a token at a place before the end: its kind, and the places where its suffix starts and where it ends
 pub record Cuts (u : Letters) (profile : ℕ) (s : List ℕ) (at kind suff end : ℕ) : Type 0 where
