@@ -4,7 +4,7 @@ use Prim.Native.Nat.{ℕ, _+_, _-_, _≤_, _<_, min, max}
 use native.Mathlib.Decide.{decLt}
 use native.Mathlib.Omega.{arith}
 use mathlib.Core.Path.{_≡_, refl, ap, sym, _∙_}
-use mathlib.Core.Bool.{Bool, true, false, false≢true}
+use mathlib.Core.Bool.{Bool, true, false, cond, false≢true}
 use mathlib.Core.List.{List, _∷_}
 use lib.ListN.{length}
 use borrow.Author.Tests.{ne-eqb}
@@ -16,7 +16,7 @@ use Rattle.letters.specs.Chars.{whitespace, isWhitespace}
 use Rattle.lexer.specs.Kinds.{eof, whitespaceKind, invalidIdent, unknown, marks, markIn}
 use Rattle.lexer.specs.Cut.{Letters, Token, isDigit, slash, number, suffix, identifier, quoted, quoteKind, word, pound, annotated, hardware, wideEmoji, goesOn, advance, token}
 use Rattle.lexer.specs.Unicode.{startIn, moreIn, emojiIn, lent}
-use Rattle.lexer.specs.Steps.{Parted, Quoted, Stands, Lettered, Plainly, Cuts, Advanced}
+use Rattle.lexer.specs.Steps.{Parted, Quoted, Stands, Lettered, NumberAt, StringAt, LiteralAt, Plainly, Cuts, Advanced}
 use Rattle.lexer.proofs.Dispatch.{Late, digit-early, late-beyond}
 
 pub stands : {s : List ℕ} {at code wide next : ℕ} → Decoded s at code wide → at < length s → next ≡ at + wide → Stands s at code next
@@ -74,29 +74,22 @@ module _ (start more emoji : List ℕ) (profile : ℕ) {s : List ℕ} {at c next
       let n : c ≡ 0x2F → ⊥ = λ e. false≢true (rw e at (y .low (omega arith))) in
       part (lent start more emoji) profile v (rw (ne-eqb c 0x2F n, y .no-space, sym o ∙ t)) p
 
-  pub cut-number : {kind suff end : ℕ} → isDigit c ≡ true → Parted (number c) s next kind suff → Place s suff end (suffix (startIn start) (moreIn more) (left s suff)) → Cuts (lent start more emoji) profile s at kind suff end
+  pub cut-number : {kind suff end : ℕ} → isDigit c ≡ true → NumberAt (startIn start) (moreIn more) c s next kind suff end → Cuts (lent start more emoji) profile s at kind suff end
   unfolding advance
-  cut-number h p q =
+  cut-number h p =
       let n = number c (left s next) in
       let y = digit-early start h in
-      cuts (lent start more emoji) profile v (record { kind = n .0; suff = n .1; rest = suffix (startIn start) (moreIn more) (n .1) }) (rw (y .no-slash, y .no-space, y .no-name, h)) (p .what)
-      (behind (lent start more emoji) profile v (p .place)) (from-place (p .place) q (ap (suffix (startIn start) (moreIn more)) (p .place .there)))
+      let q = p .what in
+      cuts (lent start more emoji) profile v (record { kind = n .0; suff = n .1; rest = suffix (startIn start) (moreIn more) (n .1) }) (rw (y .no-slash, y .no-space, y .no-name, h)) (q .what)
+      (behind (lent start more emoji) profile v (q .place)) (from-place (q .place) (p .place) (ap (suffix (startIn start) (moreIn more)) (q .place .there)))
 
-  pub cut-closed : {b : Bool} {kind suff end : ℕ} → c ≡ 0x22 → Quoted s next b kind suff → b ≡ true → Place s suff end (identifier (startIn start) (moreIn more) (left s suff)) → Cuts (lent start more emoji) profile s at kind suff end
+  pub cut-string : {kind suff end : ℕ} → c ≡ 0x22 → StringAt (startIn start) (moreIn more) s next kind suff end → Cuts (lent start more emoji) profile s at kind suff end
   unfolding advance whitespace inTable testedIn asciiStart isDigit marks markIn
-  cut-closed e q t p =
-      let r = quoted (left s next) in
-      let h : r .closed ≡ true = sym (q .flag) ∙ t in
-      cuts (lent start more emoji) profile v (record { kind = quoteKind r; suff = r .rest; rest = identifier (startIn start) (moreIn more) (r .rest) }) (rw (e, h)) (q .what)
-      (behind (lent start more emoji) profile v (q .place)) (from-place (q .place) p (ap (identifier (startIn start) (moreIn more)) (q .place .there)))
-
-  pub cut-unclosed : {b : Bool} {kind suff : ℕ} → c ≡ 0x22 → Quoted s next b kind suff → b ≡ false → Cuts (lent start more emoji) profile s at kind suff suff
-  unfolding advance whitespace inTable testedIn asciiStart isDigit marks markIn
-  cut-unclosed e q t =
-      let r = quoted (left s next) in
-      let h : r .closed ≡ false = sym (q .flag) ∙ t in
-      cuts (lent start more emoji) profile v (record { kind = quoteKind r; suff = r .rest; rest = r .rest }) (rw (e, h)) (q .what)
-      (behind (lent start more emoji) profile v (q .place)) (q .place)
+  cut-string e p =
+      let q = quoted (left s next) in
+      cuts (lent start more emoji) profile v (record { kind = quoteKind q; suff = q .rest; rest = cond (q .closed) (identifier (startIn start) (moreIn more) (q .rest)) (q .rest) }) (rw e) (p .what)
+      (behind (lent start more emoji) profile v (p .begin))
+      (from-place (p .begin) (p .place) (ap (λ (l : List ℕ). cond (q .closed) (identifier (startIn start) (moreIn more) l) l) (p .begin .there)))
 
   pub cut-pound : {kind end : ℕ} → c ≡ 0x23 → Parted pound s next kind end → Cuts (lent start more emoji) profile s at kind at end
   unfolding advance whitespace inTable testedIn asciiStart isDigit
@@ -130,13 +123,29 @@ module _ (start more emoji : List ℕ) (profile : ℕ) {s : List ℕ} {at c next
 pub told : {u : Letters} {profile : ℕ} {s : List ℕ} {at kind end kind′ suff′ end′ : ℕ} → Plainly at kind end kind′ suff′ end′ → Cuts u profile s at kind at end → Cuts u profile s at kind′ suff′ end′
 told p q = rw (p .what, p .start, p .place) q
 
+-- ---- literals behind their first character
+module _ (start more : ℕ → Bool) {s : List ℕ} {at kind suff : ℕ} where
+  pub string-closed : {b : Bool} {end : ℕ} → Quoted s at b kind suff → b ≡ true → Place s suff end (identifier start more (left s suff)) → StringAt start more s at kind suff end
+  string-closed q t p = record { what = q .what; begin = q .place; place = rw (sym (q .flag) ∙ t) p }
+
+  pub string-open : {b : Bool} → Quoted s at b kind suff → b ≡ false → StringAt start more s at kind suff suff
+  string-open q t =
+      record { what = q .what; begin = q .place; place = rw (sym (q .flag) ∙ t) (record { after = omega arith; within = q .place .within; there = refl }) }
+
+  module _ {c end : ℕ} where
+    pub literal-string : c ≡ 0x22 → StringAt start more s at kind suff end → LiteralAt start more c s at kind suff end
+    literal-string e p = record { string = λ h. p; number = λ n. absurd (n e) }
+
+    pub literal-number : (c ≡ 0x22 → ⊥) → NumberAt start more c s at kind suff end → LiteralAt start more c s at kind suff end
+    literal-number n p = record { string = λ e. absurd (n e); number = λ h. p }
+
 pub advanced : {u : Letters} {profile : ℕ} {s : List ℕ} {at kind suff end : ℕ} → at < length s → Cuts u profile s at kind suff end → Advanced u profile s at kind suff end
 advanced l c = record { before-end = λ h. c; at-end = λ h. absurd (omega arith) }
 
 pub none-at-end : {u : Letters} {profile : ℕ} {s : List ℕ} {at kind suff end : ℕ} → length s ≤ at → kind ≡ eof → suff ≡ at → end ≡ at → Advanced u profile s at kind suff end
 none-at-end l k m e = record { before-end = λ h. absurd (omega arith); at-end = λ h. (k, m, e) }
 
-pub ruleset advancing = (stands, in-front, cut-slash, cut-space, cut-word, cut-number, cut-pound, cut-annotated, cut-hardware, cut-closed, cut-unclosed, cut-emoji, cut-unknown, late-beyond, told, advanced, none-at-end)
+pub ruleset advancing = (stands, in-front, cut-slash, cut-space, cut-word, cut-pound, cut-annotated, cut-hardware, string-closed, string-open, literal-string, literal-number, cut-emoji, cut-unknown, late-beyond, told, advanced, none-at-end)
 
 -- ---- what `advance_token` says of places, at every place: rules for `omega`
 module _ (u : Letters) (profile : ℕ) (s : List ℕ) (at kind suff end : ℕ) (a : Advanced u profile s at kind suff end) where

@@ -14,7 +14,7 @@ use Rattle.unicode.specs.Text.{Place, left, skip}
 use Rattle.ucd.specs.Properties.{asciiStart}
 use Rattle.letters.specs.Chars.{isWhitespace}
 use Rattle.lexer.specs.Kinds.{eof}
-use Rattle.lexer.specs.Cut.{Letters, agree, isBit, quoted, quoteKind, token, tokens, flat, total}
+use Rattle.lexer.specs.Cut.{Letters, agree, isBit, number, identifier, suffix, quoted, quoteKind, token, tokens, flat, total}
 use Rattle.lexer.specs.Outcome.{tokensBy, runFrom}
 
 -- a kind or a flag, and a place, by a definition that gives it and what is left
@@ -63,6 +63,20 @@ pub record Stands (s : List ℕ) (at c next : ℕ) : Type 0 where
 pub record Lettered (c : ℕ) : Type 0 where
   pub no-space : isWhitespace c ≡ false
   pub low : (c < 0x80 → (eqb c 0x5F || inTable c asciiStart) ≡ true)
+
+-- a number behind its first digit c, or a quoted text behind its quote: its kind, and the places where its suffix starts and where that ends
+pub record NumberAt (start more : ℕ → Bool) (c : ℕ) (s : List ℕ) (at kind suff end : ℕ) : Type 0 where
+  pub what : Parted (number c) s at kind suff
+  pub place : Place s suff end (suffix start more (left s suff))
+
+pub record StringAt (start more : ℕ → Bool) (s : List ℕ) (at kind suff end : ℕ) : Type 0 where
+  pub what : kind ≡ quoteKind (quoted (left s at))
+  pub begin : Place s at suff (quoted (left s at) .rest)
+  pub place : Place s suff end (cond (quoted (left s at) .closed) (identifier start more (left s suff)) (left s suff))
+
+pub record LiteralAt (start more : ℕ → Bool) (c : ℕ) (s : List ℕ) (at kind suff end : ℕ) : Type 0 where
+  pub string : (c ≡ 0x22 → StringAt start more s at kind suff end)
+  pub number : ((c ≡ 0x22 → ⊥) → NumberAt start more c s at kind suff end)
 
 -- what is told of a token that is no literal, from `at` to `end`: its kind, where its suffix starts, and where it ends
 pub record Plainly (at kind end kind′ suff′ end′ : ℕ) : Type 0 where

@@ -1,9 +1,8 @@
 // The token at a place: decided by its first character, in the order of the tests.
-ghost use mathlib.Core.Path.{_≡_};
-ghost use mathlib.Core.Bool.{true};
-ghost use Rattle.lexer.specs.Cut.{isDigit};
-ghost use Rattle.lexer.specs.Unicode.{lent};
-ghost use Rattle.lexer.specs.Steps.{Stands, Lettered, Plainly, Cuts, Advanced};
+ghost use Prim.Native.Nat.{_≤_};
+ghost use lib.ListN.{length};
+ghost use Rattle.lexer.specs.Unicode.{startIn, moreIn, lent};
+ghost use Rattle.lexer.specs.Steps.{Stands, Lettered, NumberAt, StringAt, LiteralAt, Plainly, Cuts, Advanced};
 use crate::comments::Part;
 use crate::comments::slash;
 use crate::cursor::Cursor;
@@ -46,20 +45,11 @@ fn plain_part(at: usize, p: Part) -> Piece
 }
 
 // A quoted text, behind its quote.
-fn string(
-    text: &[u8],
-    at: usize,
-    c: u32,
-    next: Cursor,
-    profile: u32,
-    start: &[u32],
-    more: &[u32],
-    emoji: &[u32],
-) -> Piece
-    requires { ⌜ (Stands (now text) at c (next .at)) × (c ≡ 0x22) ⌝ }
-    ensures { λ r. ⌜ Cuts (lent (now (start .entry)) (now (more .entry)) (now (emoji .entry))) profile (now (text .entry)) at (r .kind) (r .suffix) (r .end) ⌝ }
+fn string(text: &[u8], from: Cursor, start: &[u32], more: &[u32]) -> Piece
+    requires { ⌜ from .at ≤ length (now text) ⌝ }
+    ensures { λ r. ⌜ StringAt (startIn (now (start .entry))) (moreIn (now (more .entry))) (now (text .entry)) (from .at) (r .kind) (r .suffix) (r .end) ⌝ }
 {
-    let q = double_quoted_string(text, next);
+    let q = double_quoted_string(text, from);
     let cursor = q.cursor;
     if q.closed {
         let end = eat_literal_suffix(text, cursor, start, more);
@@ -77,20 +67,11 @@ fn string(
 }
 
 // A number, behind its first digit. A unit is a token of its own.
-fn numeral(
-    text: &[u8],
-    at: usize,
-    c: u32,
-    next: Cursor,
-    profile: u32,
-    start: &[u32],
-    more: &[u32],
-    emoji: &[u32],
-) -> Piece
-    requires { ⌜ (Stands (now text) at c (next .at)) × (isDigit c ≡ true) ⌝ }
-    ensures { λ r. ⌜ Cuts (lent (now (start .entry)) (now (more .entry)) (now (emoji .entry))) profile (now (text .entry)) at (r .kind) (r .suffix) (r .end) ⌝ }
+fn numeral(text: &[u8], from: Cursor, first_digit: u32, start: &[u32], more: &[u32]) -> Piece
+    requires { ⌜ from .at ≤ length (now text) ⌝ }
+    ensures { λ r. ⌜ NumberAt (startIn (now (start .entry))) (moreIn (now (more .entry))) «first_digit» (now (text .entry)) (from .at) (r .kind) (r .suffix) (r .end) ⌝ }
 {
-    let n = number(text, next, c);
+    let n = number(text, from, first_digit);
     let cursor = n.cursor;
     if has_timing_or_imaginary_suffix(text, cursor) {
         return Piece {
@@ -107,24 +88,15 @@ fn numeral(
     }
 }
 
-// A quoted text or a number.
-fn literal(
-    text: &[u8],
-    at: usize,
-    c: u32,
-    next: Cursor,
-    profile: u32,
-    start: &[u32],
-    more: &[u32],
-    emoji: &[u32],
-) -> Piece
-    requires { ⌜ (Stands (now text) at c (next .at)) × ((c ≡ 0x22 → ⊥) → isDigit c ≡ true) ⌝ }
-    ensures { λ r. ⌜ Cuts (lent (now (start .entry)) (now (more .entry)) (now (emoji .entry))) profile (now (text .entry)) at (r .kind) (r .suffix) (r .end) ⌝ }
+// A quoted text or a number, behind its first character c.
+fn literal(text: &[u8], from: Cursor, c: u32, start: &[u32], more: &[u32]) -> Piece
+    requires { ⌜ from .at ≤ length (now text) ⌝ }
+    ensures { λ r. ⌜ LiteralAt (startIn (now (start .entry))) (moreIn (now (more .entry))) c (now (text .entry)) (from .at) (r .kind) (r .suffix) (r .end) ⌝ }
 {
     if c == 0x22 {
-        return string(text, at, c, next, profile, start, more, emoji);
+        return string(text, from, start, more);
     }
-    numeral(text, at, c, next, profile, start, more, emoji)
+    numeral(text, from, c, start, more)
 }
 
 // A letter of ASCII, an underscore, or a character beyond ASCII, where the tables decide: an identifier, one that begins with an
@@ -185,7 +157,7 @@ fn advance(
             more,
             emoji,
         ),
-        0x22 | 0x30..=0x39 => literal(text, at, c, next, profile, start, more, emoji),
+        0x22 | 0x30..=0x39 => literal(text, next, c, start, more),
         0x23 => plain_part(at, pound(text, next)),
         0x40 => plain_part(at, annotation(text, next, start)),
         0x24 => plain_part(at, hardware_ident(text, next, more, emoji)),

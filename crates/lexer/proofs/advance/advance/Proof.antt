@@ -6,7 +6,7 @@ use Rattle.letters.specs.Chars.{whitespace}
 use Rattle.lexer.specs.Kinds.{marks, markIn}
 use Rattle.lexer.specs.Cut.{isDigit, advance}
 use Rattle.lexer.proofs.Dispatch.{upper, lower, digit, underscore, wide-low, wide-middle, wide-high, free-first, free-second, free-third, free-last, late-ascii, no-emoji, space, next-line, controls, directions, separators}
-use Rattle.lexer.proofs.Advancing.{advancing, told, cut-key, cut-space, cut-unknown}
+use Rattle.lexer.proofs.Advancing.{advancing, told, cut-key, cut-space, cut-number, cut-string, cut-unknown}
 use borrow.Author.Needs.{needs}
 use Rattle.lexer.proofs.advance.advance.Statement.{statement}
 use Rattle.lexer.proofs.advance.advance.Tie as tie
@@ -120,12 +120,7 @@ named-requires c κs = (
 )
 
 literal-requires : tie.Need-literal-requires
-literal-requires c κs = (
-  c .before .before .before .before .before .pre,
-  ⊎-elim (λ w n. absurd (n (w .keys5)))
-      (λ w n. digit _ (w .0 .rest) (w .4 .left) (w .5 .taken))
-      (c .match .came),
-)
+literal-requires c κs = c .before .before .before .before .before .pre .within
 
 eat-whitespace-requires : tie.Need-eat-whitespace-requires
 eat-whitespace-requires c κs = search needs
@@ -251,7 +246,10 @@ returns-29 : tie.Need-returns-29
 returns-29 c = search needs
 
 returns-30 : tie.Need-returns-30
-returns-30 c = search needs
+returns-30 c =
+    ⊎-elim (λ w. cut-string _ _ _ _ (c .before .before .before .before .before .before .pre) (w .keys5) (c .literal .ensures .string (w .keys5)))
+    (λ w. cut-number _ _ _ _ (c .before .before .before .before .before .before .pre) (digit _ (w .0 .rest) (w .4 .left) (w .5 .taken)) (c .literal .ensures .number (w .0 .rest .0 .0 .0 .0 .0 .0 .0 .0 .0 .0 .0 .0 .0 .0 .0 .0 .0 .0 .0 .0 .0 .0 .0 .0 .0 .0 .1)))
+    (c .before .match .came)
 
 returns-31 : tie.Need-returns-31
 returns-31 c =

@@ -10,7 +10,7 @@ returns : tie.Need-returns
 returns c = search (needs, advancing)
 
 numeral-requires : tie.Need-numeral-requires
-numeral-requires c κs = (c .before .before .before .before .before .pre .0, c .before .before .before .before .before .pre .1 (c .if1 .left))
+numeral-requires c κs = search (needs, advancing)
 
 returns-2 : tie.Need-returns-2
 returns-2 c = search (needs, advancing)
