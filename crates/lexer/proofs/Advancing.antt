@@ -4,17 +4,21 @@ use Prim.Native.Nat.{ℕ, _+_, _-_, _≤_, _<_, min, max}
 use native.Mathlib.Decide.{decLt}
 use native.Mathlib.Omega.{arith}
 use mathlib.Core.Path.{_≡_, refl, ap, sym, _∙_}
-use mathlib.Core.Bool.{Bool, true, false}
+use mathlib.Core.Bool.{Bool, true, false, cond, false≢true}
 use mathlib.Core.List.{List, _∷_}
 use lib.ListN.{length}
-use borrow.Author.Tests.{eq-eqb, ne-eqb}
+use borrow.Author.Tests.{ne-eqb}
+use Rattle.unicode.specs.Ranges.{inTable}
 use Rattle.unicode.specs.Text.{Decoded, left, skip}
 use Rattle.unicode.specs.Steps.{Place}
 use Rattle.unicode.proofs.Text.{decoded-point, from-place}
-use Rattle.letters.specs.Chars.{isWhitespace}
+use Rattle.ucd.specs.Properties.{asciiStart, testedIn}
+use Rattle.letters.specs.Chars.{whitespace, isWhitespace}
 use Rattle.lexer.specs.Kinds.{eof, whitespaceKind, invalidIdent, unknown, marks, markIn}
 use Rattle.lexer.specs.Cut.{Letters, Piece, isDigit, slash, number, numberSuffix, identifier, quoted, quoteKind, word, pound, annotated, hardware, wideEmoji, goesOn, advance, advanceToken}
-use Rattle.lexer.specs.Steps.{Parted, Quoted, Stands, Later, Single, Cuts, Advanced}
+use Rattle.lexer.specs.Unicode.{startIn, moreIn, emojiIn, lent}
+use Rattle.lexer.specs.Steps.{Parted, Quoted, Stands, Lettered, NumberAt, StringAt, LiteralAt, Plainly, Cuts, Advanced}
+use Rattle.lexer.proofs.Dispatch.{Late, digit-early, late-beyond}
 
 pub stands : {s : List ℕ} {at code wide next : ℕ} → Decoded s at code wide → at < length s → next ≡ at + wide → Stands s at code next
 stands d l u =
@@ -47,94 +51,94 @@ module _ (u : Letters) (profile : ℕ) {s : List ℕ} {at c next : ℕ} (v : Sta
   part : {f : List ℕ → ℕ × List ℕ} {kind end : ℕ} → advance u profile c (left s next) ≡ record { kind = f (left s next) .0; fromSuffix = c ∷ left s next; rest = f (left s next) .1 } → Parted f s next kind end → Cuts u profile s at kind at end
   part {f} e p = cuts (record { kind = f (left s next) .0; fromSuffix = c ∷ left s next; rest = f (left s next) .1 }) e (p .what) own (p .place)
 
-  pub cut-slash : {kind end : ℕ} → c ≡ 0x2F → Parted slash s next kind end → Cuts u profile s at kind at end
+  -- a token of one character, by what is computed of it
+  pub cut-key : (m k : ℕ) → c ≡ m → ((t : List ℕ) → advance u profile m t ≡ record { kind = k; fromSuffix = m ∷ t; rest = t }) → Cuts u profile s at k at next
+  cut-key m k e f =
+      cuts (record { kind = k; fromSuffix = c ∷ left s next; rest = left s next }) (rw e (f (left s next))) refl own
+      (record { after = omega arith; within = v .within; there = refl })
+
+-- ---- over lent tables: of ASCII the ranges decide, whatever the tables hold
+module _ (start more emoji : List ℕ) (profile : ℕ) {s : List ℕ} {at c next : ℕ} (v : Stands s at c next) where
+  pub cut-slash : {kind end : ℕ} → c ≡ 0x2F → Parted slash s next kind end → Cuts (lent start more emoji) profile s at kind at end
   unfolding advance
-  cut-slash e p = part (rw (eq-eqb c 0x2F e)) p
+  cut-slash e p = part (lent start more emoji) profile v (rw e) p
 
-  pub cut-space : {kind end : ℕ} {b : Bool} → (c ≡ 0x2F → ⊥) → b ≡ isWhitespace c → b ≡ true → Place s next end (skip isWhitespace (left s next)) → kind ≡ whitespaceKind → Cuts u profile s at kind at end
+  pub cut-space : {end : ℕ} → isWhitespace c ≡ true → Place s next end (skip isWhitespace (left s next)) → Cuts (lent start more emoji) profile s at whitespaceKind at end
+  unfolding advance whitespace inTable
+  cut-space h p =
+      let n : c ≡ 0x2F → ⊥ = λ e. false≢true (rw e at h) in
+      cuts (lent start more emoji) profile v (record { kind = whitespaceKind; fromSuffix = c ∷ left s next; rest = skip isWhitespace (left s next) }) (rw (ne-eqb c 0x2F n, h)) refl (own (lent start more emoji) profile v) p
+
+  pub cut-word : {kind end : ℕ} {b : Bool} → Lettered c → b ≡ startIn start c → b ≡ true → Parted (word (moreIn more) (emojiIn emoji) profile c) s next kind end → Cuts (lent start more emoji) profile s at kind at end
+  unfolding advance asciiStart inTable
+  cut-word y o t p =
+      let n : c ≡ 0x2F → ⊥ = λ e. false≢true (rw e at (y .low (omega arith))) in
+      part (lent start more emoji) profile v (rw (ne-eqb c 0x2F n, y .no-space, sym o ∙ t)) p
+
+  pub cut-number : {kind suffixAt end : ℕ} → isDigit c ≡ true → NumberAt (startIn start) (moreIn more) c s next kind suffixAt end → Cuts (lent start more emoji) profile s at kind suffixAt end
   unfolding advance
-  cut-space n o t p k =
-      cuts (record { kind = whitespaceKind; fromSuffix = c ∷ left s next; rest = skip isWhitespace (left s next) }) (rw (ne-eqb c 0x2F n, sym o ∙ t)) k own p
+  cut-number h p =
+      let n = number c (left s next) in
+      let y = digit-early start h in
+      let q = p .what in
+      cuts (lent start more emoji) profile v (record { kind = n .0; fromSuffix = n .1; rest = numberSuffix (startIn start) (moreIn more) (n .1) }) (rw (y .no-slash, y .no-space, y .no-name, h)) (q .what)
+      (behind (lent start more emoji) profile v (q .place)) (from-place (q .place) (p .place) (ap (numberSuffix (startIn start) (moreIn more)) (q .place .there)))
 
-  pub cut-word : {kind end : ℕ} {b : Bool} → (c ≡ 0x2F → ⊥) → isWhitespace c ≡ false → b ≡ u .start c → b ≡ true → Parted (word (u .more) (u .emoji) profile c) s next kind end → Cuts u profile s at kind at end
-  unfolding advance
-  cut-word n h o t p = part (rw (ne-eqb c 0x2F n, h, sym o ∙ t)) p
+  pub cut-string : {kind suffixAt end : ℕ} → c ≡ 0x22 → StringAt (startIn start) (moreIn more) s next kind suffixAt end → Cuts (lent start more emoji) profile s at kind suffixAt end
+  unfolding advance whitespace inTable testedIn asciiStart isDigit marks markIn
+  cut-string e p =
+      let q = quoted (left s next) in
+      cuts (lent start more emoji) profile v (record { kind = quoteKind q; fromSuffix = q .rest; rest = cond (q .closed) (identifier (startIn start) (moreIn more) (q .rest)) (q .rest) }) (rw e) (p .what)
+      (behind (lent start more emoji) profile v (p .begin))
+      (from-place (p .begin) (p .place) (ap (λ (l : List ℕ). cond (q .closed) (identifier (startIn start) (moreIn more) l) l) (p .begin .there)))
 
-  module _ (y : Later u c) where
-    pub cut-number : {kind suffixAt end : ℕ} → isDigit c ≡ true → Parted (number c) s next kind suffixAt → Place s suffixAt end (numberSuffix (u .start) (u .more) (left s suffixAt)) → Cuts u profile s at kind suffixAt end
+  pub cut-pound : {kind end : ℕ} → c ≡ 0x23 → Parted pound s next kind end → Cuts (lent start more emoji) profile s at kind at end
+  unfolding advance whitespace inTable testedIn asciiStart isDigit
+  cut-pound e p = part (lent start more emoji) profile v (rw e) p
+
+  pub cut-annotated : {kind end : ℕ} → c ≡ 0x40 → Parted (annotated (startIn start)) s next kind end → Cuts (lent start more emoji) profile s at kind at end
+  unfolding advance whitespace inTable testedIn asciiStart isDigit
+  cut-annotated e p = part (lent start more emoji) profile v (rw e) p
+
+  pub cut-hardware : {kind end : ℕ} → c ≡ 0x24 → Parted (hardware (moreIn more) (emojiIn emoji)) s next kind end → Cuts (lent start more emoji) profile s at kind at end
+  unfolding advance whitespace inTable testedIn asciiStart isDigit
+  cut-hardware e p = part (lent start more emoji) profile v (rw e) p
+
+  -- what none of the tests before takes
+  module _ (y : Late start c) where
+    pub cut-emoji : {b : Bool} {end : ℕ} → b ≡ wideEmoji (emojiIn emoji) c → b ≡ true → Place s next end (skip (goesOn (moreIn more) (emojiIn emoji)) (left s next)) → Cuts (lent start more emoji) profile s at invalidIdent at end
     unfolding advance
-    cut-number h p q =
-        let n = number c (left s next) in
-        cuts (record { kind = n .0; fromSuffix = n .1; rest = numberSuffix (u .start) (u .more) (n .1) }) (rw (ne-eqb c 0x2F (y .no-slash), y .no-space, y .no-name, h)) (p .what)
-        (behind (p .place)) (from-place (p .place) q (ap (numberSuffix (u .start) (u .more)) (p .place .there)))
+    cut-emoji f t p =
+        cuts (lent start more emoji) profile v (record { kind = invalidIdent; fromSuffix = c ∷ left s next; rest = skip (goesOn (moreIn more) (emojiIn emoji)) (left s next) })
+        (rw (y .early .no-slash, y .early .no-space, y .early .no-name, y .no-digit, y .no-pound, y .no-at, y .no-dollar, y .no-mark, y .no-quote, sym f ∙ t))
+        refl (own (lent start more emoji) profile v) p
 
-    pub cut-pound : {kind end : ℕ} → isDigit c ≡ false → c ≡ 0x23 → Parted pound s next kind end → Cuts u profile s at kind at end
+    pub cut-unknown : {b : Bool} → b ≡ wideEmoji (emojiIn emoji) c → b ≡ false → Cuts (lent start more emoji) profile s at unknown at next
     unfolding advance
-    cut-pound h e p = part (rw (ne-eqb c 0x2F (y .no-slash), y .no-space, y .no-name, h, eq-eqb c 0x23 e)) p
+    cut-unknown f t =
+        cuts (lent start more emoji) profile v (record { kind = unknown; fromSuffix = c ∷ left s next; rest = left s next })
+        (rw (y .early .no-slash, y .early .no-space, y .early .no-name, y .no-digit, y .no-pound, y .no-at, y .no-dollar, y .no-mark, y .no-quote, sym f ∙ t))
+        refl (own (lent start more emoji) profile v) (record { after = omega arith; within = v .within; there = refl })
 
-    pub cut-annotated : {kind end : ℕ} → isDigit c ≡ false → c ≡ 0x40 → Parted (annotated (u .start)) s next kind end → Cuts u profile s at kind at end
-    unfolding advance
-    cut-annotated h e p =
-        part (rw (ne-eqb c 0x2F (y .no-slash), y .no-space, y .no-name, h, ne-eqb c 0x23 (λ z. omega arith), eq-eqb c 0x40 e)) p
+-- as it is told plainly
+pub told : {u : Letters} {profile : ℕ} {s : List ℕ} {at kind end kind′ suffixAt′ end′ : ℕ} → Plainly at kind end kind′ suffixAt′ end′ → Cuts u profile s at kind at end → Cuts u profile s at kind′ suffixAt′ end′
+told p q = rw (p .what, p .start, p .place) q
 
-    pub cut-hardware : {kind end : ℕ} → isDigit c ≡ false → c ≡ 0x24 → Parted (hardware (u .more) (u .emoji)) s next kind end → Cuts u profile s at kind at end
-    unfolding advance
-    cut-hardware h e p =
-        part (rw (ne-eqb c 0x2F (y .no-slash), y .no-space, y .no-name, h, ne-eqb c 0x23 (λ z. omega arith), ne-eqb c 0x40 (λ z. omega arith), eq-eqb c 0x24 e)) p
+-- ---- literals behind their first character
+module _ (start more : ℕ → Bool) {s : List ℕ} {at kind suffixAt : ℕ} where
+  pub string-closed : {b : Bool} {end : ℕ} → Quoted s at b kind suffixAt → b ≡ true → Place s suffixAt end (identifier start more (left s suffixAt)) → StringAt start more s at kind suffixAt end
+  string-closed q t p = record { what = q .what; begin = q .place; place = rw (sym (q .flag) ∙ t) p }
 
-    pub cut-closed : {b : Bool} {kind suffixAt end : ℕ} → c ≡ 0x22 → Quoted s next b kind suffixAt → b ≡ true → Place s suffixAt end (identifier (u .start) (u .more) (left s suffixAt)) → Cuts u profile s at kind suffixAt end
-    unfolding advance isDigit marks markIn
-    cut-closed e q t p =
-        let r = quoted (left s next) in
-        let h : r .closed ≡ true = sym (q .flag) ∙ t in
-        cuts (record { kind = quoteKind r; fromSuffix = r .rest; rest = identifier (u .start) (u .more) (r .rest) }) (rw (ne-eqb c 0x2F (y .no-slash), y .no-space, y .no-name, e, h)) (q .what)
-        (behind (q .place)) (from-place (q .place) p (ap (identifier (u .start) (u .more)) (q .place .there)))
+  pub string-open : {b : Bool} → Quoted s at b kind suffixAt → b ≡ false → StringAt start more s at kind suffixAt suffixAt
+  string-open q t =
+      record { what = q .what; begin = q .place; place = rw (sym (q .flag) ∙ t) (record { after = omega arith; within = q .place .within; there = refl }) }
 
-    pub cut-unclosed : {b : Bool} {kind suffixAt : ℕ} → c ≡ 0x22 → Quoted s next b kind suffixAt → b ≡ false → Cuts u profile s at kind suffixAt suffixAt
-    unfolding advance isDigit marks markIn
-    cut-unclosed e q t =
-        let r = quoted (left s next) in
-        let h : r .closed ≡ false = sym (q .flag) ∙ t in
-        cuts (record { kind = quoteKind r; fromSuffix = r .rest; rest = r .rest }) (rw (ne-eqb c 0x2F (y .no-slash), y .no-space, y .no-name, e, h)) (q .what)
-        (behind (q .place)) (q .place)
+  module _ {c end : ℕ} where
+    pub literal-string : c ≡ 0x22 → StringAt start more s at kind suffixAt end → LiteralAt start more c s at kind suffixAt end
+    literal-string e p = record { string = λ h. p; number = λ n. absurd (n e) }
 
-  module _ (y : Single u c) {k : ℕ} (o : k ≡ markIn marks c) where
-    pub cut-mark : {kind end : ℕ} → (k ≡ 0 → ⊥) → kind ≡ k → end ≡ next → Cuts u profile s at kind at end
-    unfolding advance
-    cut-mark n e w =
-        let z = y .later in
-        cuts (record { kind = markIn marks c; fromSuffix = c ∷ left s next; rest = left s next })
-        (rw (ne-eqb c 0x2F (z .no-slash), z .no-space, z .no-name, y .no-digit, ne-eqb c 0x23 (y .no-pound), ne-eqb c 0x40 (y .no-at), ne-eqb c 0x24 (y .no-dollar), ne-eqb (markIn marks c) 0 (λ x. n (o ∙ x))))
-        (e ∙ o) own (rw w (record { after = omega arith; within = v .within; there = refl }))
-
-    pub cut-emoji : {b : Bool} {kind end : ℕ} → k ≡ 0 → (c ≡ 0x22 → ⊥) → b ≡ wideEmoji (u .emoji) c → b ≡ true → Place s next end (skip (goesOn (u .more) (u .emoji)) (left s next)) → kind ≡ invalidIdent → Cuts u profile s at kind at end
-    unfolding advance
-    cut-emoji n i f t p e =
-        let z = y .later in
-        cuts (record { kind = invalidIdent; fromSuffix = c ∷ left s next; rest = skip (goesOn (u .more) (u .emoji)) (left s next) })
-        (rw (ne-eqb c 0x2F (z .no-slash), z .no-space, z .no-name, y .no-digit, ne-eqb c 0x23 (y .no-pound), ne-eqb c 0x40 (y .no-at), ne-eqb c 0x24 (y .no-dollar), sym o ∙ n, ne-eqb c 0x22 i, sym f ∙ t))
-        e own p
-
-    pub cut-unknown : {b : Bool} {kind end : ℕ} → k ≡ 0 → (c ≡ 0x22 → ⊥) → b ≡ wideEmoji (u .emoji) c → b ≡ false → kind ≡ unknown → end ≡ next → Cuts u profile s at kind at end
-    unfolding advance
-    cut-unknown n i f t e w =
-        let z = y .later in
-        cuts (record { kind = unknown; fromSuffix = c ∷ left s next; rest = left s next })
-        (rw (ne-eqb c 0x2F (z .no-slash), z .no-space, z .no-name, y .no-digit, ne-eqb c 0x23 (y .no-pound), ne-eqb c 0x40 (y .no-at), ne-eqb c 0x24 (y .no-dollar), sym o ∙ n, ne-eqb c 0x22 i, sym f ∙ t))
-        e own (rw w (record { after = omega arith; within = v .within; there = refl }))
-
--- what the tests before said of c
-pub digit-yes : (c : ℕ) {b : Bool} → b ≡ isDigit c → b ≡ true → isDigit c ≡ true
-digit-yes c o t = sym o ∙ t
-
-pub digit-no : (c : ℕ) {b : Bool} → b ≡ isDigit c → b ≡ false → isDigit c ≡ false
-digit-no c o t = sym o ∙ t
-
-pub space-no : (c : ℕ) {b : Bool} → b ≡ isWhitespace c → b ≡ false → isWhitespace c ≡ false
-space-no c o t = sym o ∙ t
-
-pub later : {u : Letters} {c : ℕ} {b : Bool} → (c ≡ 0x2F → ⊥) → isWhitespace c ≡ false → b ≡ u .start c → b ≡ false → Later u c
-later n h o t = record { no-slash = n; no-space = h; no-name = sym o ∙ t }
+    pub literal-number : (c ≡ 0x22 → ⊥) → NumberAt start more c s at kind suffixAt end → LiteralAt start more c s at kind suffixAt end
+    literal-number n p = record { string = λ e. absurd (n e); number = λ h. p }
 
 pub advanced : {u : Letters} {profile : ℕ} {s : List ℕ} {at kind suffixAt end : ℕ} → at < length s → Cuts u profile s at kind suffixAt end → Advanced u profile s at kind suffixAt end
 advanced l c = record { before-end = λ h. c; at-end = λ h. absurd (omega arith) }
@@ -142,7 +146,7 @@ advanced l c = record { before-end = λ h. c; at-end = λ h. absurd (omega arith
 pub none-at-end : {u : Letters} {profile : ℕ} {s : List ℕ} {at kind suffixAt end : ℕ} → length s ≤ at → kind ≡ eof → suffixAt ≡ at → end ≡ at → Advanced u profile s at kind suffixAt end
 none-at-end l k m e = record { before-end = λ h. absurd (omega arith); at-end = λ h. (k, m, e) }
 
-pub ruleset advancing = (stands, in-front, cut-slash, cut-space, cut-word, cut-number, cut-pound, cut-annotated, cut-hardware, cut-closed, cut-unclosed, cut-mark, cut-emoji, cut-unknown, digit-yes, digit-no, space-no, later, advanced, none-at-end)
+pub ruleset advancing = (stands, in-front, cut-slash, cut-space, cut-word, cut-pound, cut-annotated, cut-hardware, string-closed, string-open, literal-string, literal-number, cut-emoji, cut-unknown, late-beyond, told, advanced, none-at-end)
 
 -- ---- what `advance_token` says of places, at every place: rules for `omega`
 module _ (u : Letters) (profile : ℕ) (s : List ℕ) (at kind suffixAt end : ℕ) (a : Advanced u profile s at kind suffixAt end) where

@@ -7,6 +7,7 @@ pub mod Blocks
 pub mod Digits
 pub mod Names
 pub mod Bodies
+pub mod Dispatch
 pub mod Advancing
 pub mod Shapes
 pub mod Whole

@@ -2,18 +2,20 @@
 -- Assumes nothing.
 use Prim.Native.Nat.{ℕ, _+_, _/_, _≤_, _<_, min}
 use mathlib.Core.Path.{_≡_}
-use mathlib.Core.Bool.{Bool, false, cond, _&&_, _||_}
+use mathlib.Core.Bool.{Bool, true, false, cond, _&&_, _||_}
 use mathlib.Core.List.{List, _∷_}
 use lib.Dec.{eqb}
 use lib.ListN.{length, take, drop, getD}
 use lib.Seq.{sets}
 use Rattle.lists.specs.Over.{over}
 use Rattle.text.specs.Answer.{Answered, done, checkRoom}
+use Rattle.unicode.specs.Ranges.{inTable}
 use Rattle.unicode.specs.Steps.{Place}
 use Rattle.unicode.specs.Text.{left, skip}
+use Rattle.ucd.specs.Properties.{asciiStart}
 use Rattle.letters.specs.Chars.{isWhitespace}
 use Rattle.lexer.specs.Kinds.{eof}
-use Rattle.lexer.specs.Cut.{Letters, Token, agree, isBit, isDigit, quoted, quoteKind, advanceToken, tokens, flat, total}
+use Rattle.lexer.specs.Cut.{Letters, Token, agree, isBit, number, identifier, numberSuffix, quoted, quoteKind, advanceToken, tokens, flat, total}
 use Rattle.lexer.specs.Promises.{tokensBy}
 
 -- a kind or a flag, and a place, by a definition that gives it and what is left
@@ -58,19 +60,30 @@ pub record Stands (s : List ℕ) (at c next : ℕ) : Type 0 where
   pub within : next ≤ length s
   pub view : left s at ≡ c ∷ left s next
 
--- c is no slash and no white space, and begins no identifier
-pub record Later (u : Letters) (c : ℕ) : Type 0 where
-  pub no-slash : (c ≡ 0x2F → ⊥)
+-- c is a letter of ASCII, an underscore, or a character beyond ASCII that is no white space
+pub record Lettered (c : ℕ) : Type 0 where
   pub no-space : isWhitespace c ≡ false
-  pub no-name : u .start c ≡ false
+  pub low : (c < 0x80 → (eqb c 0x5F || inTable c asciiStart) ≡ true)
 
--- nor is it a digit, #, @ or $
-pub record Single (u : Letters) (c : ℕ) : Type 0 where
-  pub later : Later u c
-  pub no-digit : isDigit c ≡ false
-  pub no-pound : (c ≡ 0x23 → ⊥)
-  pub no-at : (c ≡ 0x40 → ⊥)
-  pub no-dollar : (c ≡ 0x24 → ⊥)
+-- a number behind its first digit c, or a quoted text behind its quote: its kind, and the places where its suffix starts and where that ends
+pub record NumberAt (start more : ℕ → Bool) (c : ℕ) (s : List ℕ) (at kind suffixAt end : ℕ) : Type 0 where
+  pub what : Parted (number c) s at kind suffixAt
+  pub place : Place s suffixAt end (numberSuffix start more (left s suffixAt))
+
+pub record StringAt (start more : ℕ → Bool) (s : List ℕ) (at kind suffixAt end : ℕ) : Type 0 where
+  pub what : kind ≡ quoteKind (quoted (left s at))
+  pub begin : Place s at suffixAt (quoted (left s at) .rest)
+  pub place : Place s suffixAt end (cond (quoted (left s at) .closed) (identifier start more (left s suffixAt)) (left s suffixAt))
+
+pub record LiteralAt (start more : ℕ → Bool) (c : ℕ) (s : List ℕ) (at kind suffixAt end : ℕ) : Type 0 where
+  pub string : (c ≡ 0x22 → StringAt start more s at kind suffixAt end)
+  pub number : ((c ≡ 0x22 → ⊥) → NumberAt start more c s at kind suffixAt end)
+
+-- what is told of a token that is no literal, from `at` to `end`: its kind, where its suffix starts, and where it ends
+pub record Plainly (at kind end kind′ suffixAt′ end′ : ℕ) : Type 0 where
+  pub what : kind′ ≡ kind
+  pub start : suffixAt′ ≡ at
+  pub place : end′ ≡ end
 
 -- ---- a token at a place before the end: its kind, and the places where its suffix starts and where it ends
 pub record Cuts (u : Letters) (profile : ℕ) (s : List ℕ) (at kind suffixAt end : ℕ) : Type 0 where

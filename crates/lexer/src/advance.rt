@@ -1,16 +1,11 @@
 // The token at a place: decided by its first character, in the order of the tests.
-ghost use mathlib.Core.Path.{_≡_};
-ghost use mathlib.Core.Bool.{true, false};
-ghost use Prim.Native.Nat.{_<_};
+ghost use Prim.Native.Nat.{_≤_};
 ghost use lib.ListN.{length};
-ghost use Rattle.letters.specs.Chars.{isWhitespace};
-ghost use Rattle.lexer.specs.Cut.{isDigit};
-ghost use Rattle.lexer.specs.Kinds.{marks, markIn};
-ghost use Rattle.lexer.specs.Unicode.{lent};
-ghost use Rattle.lexer.specs.Steps.{Stands, Later, Single, Cuts, Advanced};
+ghost use Rattle.lexer.specs.Unicode.{startIn, moreIn, lent};
+ghost use Rattle.lexer.specs.Steps.{Stands, Lettered, NumberAt, StringAt, LiteralAt, Plainly, Cuts, Advanced};
+use crate::comments::Part;
 use crate::comments::slash;
 use crate::cursor::Cursor;
-use crate::cursor::is_digit;
 use crate::cursor::is_id_start_in;
 use crate::cursor::is_wide_emoji;
 use crate::kinds;
@@ -22,7 +17,6 @@ use crate::words::annotation;
 use crate::words::hardware_ident;
 use crate::words::ident_or_unknown_prefix;
 use crate::words::pound;
-use letters::is_whitespace;
 use unicode::utf8::decode;
 
 // A token: its kind, the place where its suffix starts (of a literal with none, its end; of all else, its own start), and its end.
@@ -33,53 +27,29 @@ pub struct Piece {
     pub end: usize,
 }
 
-// The kind of a single mark, or 0.
-fn mark_of(c: u32) -> u32
-    ensures { λ r. ⌜ r ≡ markIn marks c ⌝ }
+// A token that is no literal: its suffix is told at its own start.
+fn plain(at: usize, kind: u32, end: Cursor) -> Piece
+    ensures { λ r. ⌜ Plainly at kind (end .at) (r .kind) (r .suffix) (r .end) ⌝ }
 {
-    match c {
-        0x3B => kinds::SEMI,
-        0x2C => kinds::COMMA,
-        0x2E => kinds::DOT,
-        0x28 => kinds::OPEN_PAREN,
-        0x29 => kinds::CLOSE_PAREN,
-        0x7B => kinds::OPEN_BRACE,
-        0x7D => kinds::CLOSE_BRACE,
-        0x5B => kinds::OPEN_BRACKET,
-        0x5D => kinds::CLOSE_BRACKET,
-        0x7E => kinds::TILDE,
-        0x3F => kinds::QUESTION,
-        0x3A => kinds::COLON,
-        0x3D => kinds::EQ,
-        0x21 => kinds::BANG,
-        0x3C => kinds::LT,
-        0x3E => kinds::GT,
-        0x2D => kinds::MINUS,
-        0x26 => kinds::AND,
-        0x7C => kinds::OR,
-        0x2B => kinds::PLUS,
-        0x2A => kinds::STAR,
-        0x5E => kinds::CARET,
-        0x25 => kinds::PERCENT,
-        _ => 0,
+    Piece {
+        kind,
+        suffix: at,
+        end: end.at,
     }
 }
 
-// A quoted text, behind its quote.
-fn string(
-    text: &[u8],
-    at: usize,
-    c: u32,
-    next: Cursor,
-    profile: u32,
-    start: &[u32],
-    more: &[u32],
-    emoji: &[u32],
-) -> Piece
-    requires { ⌜ (Stands (now text) at c (next .at)) × (Later (lent (now start) (now more) (now emoji)) c) × (c ≡ 0x22) ⌝ }
-    ensures { λ r. ⌜ Cuts (lent (now (start .entry)) (now (more .entry)) (now (emoji .entry))) profile (now (text .entry)) at (r .kind) (r .suffix) (r .end) ⌝ }
+fn plain_part(at: usize, p: Part) -> Piece
+    ensures { λ r. ⌜ Plainly at (p .kind) (p .cursor .at) (r .kind) (r .suffix) (r .end) ⌝ }
 {
-    let q = double_quoted_string(text, next);
+    plain(at, p.kind, p.cursor)
+}
+
+// A quoted text, behind its quote.
+fn string(text: &[u8], from: Cursor, start: &[u32], more: &[u32]) -> Piece
+    requires { ⌜ from .at ≤ length (now text) ⌝ }
+    ensures { λ r. ⌜ StringAt (startIn (now (start .entry))) (moreIn (now (more .entry))) (now (text .entry)) (from .at) (r .kind) (r .suffix) (r .end) ⌝ }
+{
+    let q = double_quoted_string(text, from);
     let cursor = q.cursor;
     if q.closed {
         let end = eat_literal_suffix(text, cursor, start, more);
@@ -97,20 +67,11 @@ fn string(
 }
 
 // A number, behind its first digit. A unit is a token of its own.
-fn numeral(
-    text: &[u8],
-    at: usize,
-    c: u32,
-    next: Cursor,
-    profile: u32,
-    start: &[u32],
-    more: &[u32],
-    emoji: &[u32],
-) -> Piece
-    requires { ⌜ (Stands (now text) at c (next .at)) × (Later (lent (now start) (now more) (now emoji)) c) × (isDigit c ≡ true) ⌝ }
-    ensures { λ r. ⌜ Cuts (lent (now (start .entry)) (now (more .entry)) (now (emoji .entry))) profile (now (text .entry)) at (r .kind) (r .suffix) (r .end) ⌝ }
+fn numeral(text: &[u8], from: Cursor, first_digit: u32, start: &[u32], more: &[u32]) -> Piece
+    requires { ⌜ from .at ≤ length (now text) ⌝ }
+    ensures { λ r. ⌜ NumberAt (startIn (now (start .entry))) (moreIn (now (more .entry))) «first_digit» (now (text .entry)) (from .at) (r .kind) (r .suffix) (r .end) ⌝ }
 {
-    let n = number(text, next, c);
+    let n = number(text, from, first_digit);
     let cursor = n.cursor;
     if has_timing_or_imaginary_suffix(text, cursor) {
         return Piece {
@@ -127,112 +88,19 @@ fn numeral(
     }
 }
 
-// A single mark, a quoted text, an identifier that begins with an emoji, or an unknown character.
-fn single(
-    text: &[u8],
-    at: usize,
-    c: u32,
-    next: Cursor,
-    profile: u32,
-    start: &[u32],
-    more: &[u32],
-    emoji: &[u32],
-) -> Piece
-    requires { ⌜ (Stands (now text) at c (next .at)) × (Single (lent (now start) (now more) (now emoji)) c) ⌝ }
-    ensures { λ r. ⌜ Cuts (lent (now (start .entry)) (now (more .entry)) (now (emoji .entry))) profile (now (text .entry)) at (r .kind) (r .suffix) (r .end) ⌝ }
+// A quoted text or a number, behind its first character c.
+fn literal(text: &[u8], from: Cursor, c: u32, start: &[u32], more: &[u32]) -> Piece
+    requires { ⌜ from .at ≤ length (now text) ⌝ }
+    ensures { λ r. ⌜ LiteralAt (startIn (now (start .entry))) (moreIn (now (more .entry))) c (now (text .entry)) (from .at) (r .kind) (r .suffix) (r .end) ⌝ }
 {
-    let k = mark_of(c);
-    if k != 0 {
-        return Piece {
-            kind: k,
-            suffix: at,
-            end: next.at,
-        };
-    }
     if c == 0x22 {
-        return string(text, at, c, next, profile, start, more, emoji);
+        return string(text, from, start, more);
     }
-    if is_wide_emoji(emoji, c) {
-        let fake = next.eat_fake(text, more, emoji);
-        return Piece {
-            kind: kinds::INVALID_IDENT,
-            suffix: at,
-            end: fake.at,
-        };
-    }
-    Piece {
-        kind: kinds::UNKNOWN,
-        suffix: at,
-        end: next.at,
-    }
+    numeral(text, from, c, start, more)
 }
 
-// What begins with an at sign or a dollar sign, and what begins with none of those before.
-fn sigil(
-    text: &[u8],
-    at: usize,
-    c: u32,
-    next: Cursor,
-    profile: u32,
-    start: &[u32],
-    more: &[u32],
-    emoji: &[u32],
-) -> Piece
-    requires { ⌜ (Stands (now text) at c (next .at)) × (Later (lent (now start) (now more) (now emoji)) c) × (isDigit c ≡ false) × (c ≡ 0x23 → ⊥) ⌝ }
-    ensures { λ r. ⌜ Cuts (lent (now (start .entry)) (now (more .entry)) (now (emoji .entry))) profile (now (text .entry)) at (r .kind) (r .suffix) (r .end) ⌝ }
-{
-    match c {
-        0x40 => {
-            let p = annotation(text, next, start);
-            return Piece {
-                kind: p.kind,
-                suffix: at,
-                end: p.cursor.at,
-            };
-        }
-        0x24 => {
-            let p = hardware_ident(text, next, more, emoji);
-            return Piece {
-                kind: p.kind,
-                suffix: at,
-                end: p.cursor.at,
-            };
-        }
-        _ => {
-            return single(text, at, c, next, profile, start, more, emoji);
-        }
-    }
-}
-
-// What is no slash and no white space, and begins no identifier.
-fn other(
-    text: &[u8],
-    at: usize,
-    c: u32,
-    next: Cursor,
-    profile: u32,
-    start: &[u32],
-    more: &[u32],
-    emoji: &[u32],
-) -> Piece
-    requires { ⌜ (Stands (now text) at c (next .at)) × (Later (lent (now start) (now more) (now emoji)) c) ⌝ }
-    ensures { λ r. ⌜ Cuts (lent (now (start .entry)) (now (more .entry)) (now (emoji .entry))) profile (now (text .entry)) at (r .kind) (r .suffix) (r .end) ⌝ }
-{
-    if is_digit(c) {
-        return numeral(text, at, c, next, profile, start, more, emoji);
-    }
-    if c == 0x23 {
-        let p = pound(text, next);
-        return Piece {
-            kind: p.kind,
-            suffix: at,
-            end: p.cursor.at,
-        };
-    }
-    sigil(text, at, c, next, profile, start, more, emoji)
-}
-
-// An identifier, and what begins none.
+// A letter of ASCII, an underscore, or a character beyond ASCII, where the tables decide: an identifier, one that begins with an
+// emoji, or an unknown character.
 fn named(
     text: &[u8],
     at: usize,
@@ -243,52 +111,81 @@ fn named(
     more: &[u32],
     emoji: &[u32],
 ) -> Piece
-    requires { ⌜ (Stands (now text) at c (next .at)) × (c ≡ 0x2F → ⊥) × (isWhitespace c ≡ false) ⌝ }
+    requires { ⌜ (Stands (now text) at c (next .at)) × (Lettered c) ⌝ }
     ensures { λ r. ⌜ Cuts (lent (now (start .entry)) (now (more .entry)) (now (emoji .entry))) profile (now (text .entry)) at (r .kind) (r .suffix) (r .end) ⌝ }
 {
     if is_id_start_in(start, c) {
         let own = Cursor { at };
         let p = ident_or_unknown_prefix(text, own, c, next, profile, more, emoji);
-        return Piece {
-            kind: p.kind,
-            suffix: at,
-            end: p.cursor.at,
-        };
+        return plain_part(at, p);
     }
-    other(text, at, c, next, profile, start, more, emoji)
+    if is_wide_emoji(emoji, c) {
+        return plain(at, kinds::INVALID_IDENT, next.eat_fake(text, more, emoji));
+    }
+    plain(at, kinds::UNKNOWN, next)
 }
 
-// The token at a place before the end.
+// The token that begins with c, in the order of the tests. A quoted text stands with the numbers: the compiler takes the range
+// alone, behind so many marks, for rare, and calls what cuts a number instead of placing it in line.
 fn advance(
     text: &[u8],
     at: usize,
+    c: u32,
+    next: Cursor,
     profile: u32,
     start: &[u32],
     more: &[u32],
     emoji: &[u32],
 ) -> Piece
-    requires { ⌜ at < length (now text) ⌝ }
+    requires { ⌜ Stands (now text) at c (next .at) ⌝ }
     ensures { λ r. ⌜ Cuts (lent (now (start .entry)) (now (more .entry)) (now (emoji .entry))) profile (now (text .entry)) at (r .kind) (r .suffix) (r .end) ⌝ }
 {
-    let d = decode(text, at);
-    let next = Cursor { at: at + d.wide };
-    if d.code == 0x2F {
-        let p = slash(text, next);
-        return Piece {
-            kind: p.kind,
-            suffix: at,
-            end: p.cursor.at,
-        };
+    match c {
+        0x2F => plain_part(at, slash(text, next)),
+        0x09..=0x0D | 0x20 | 0x85 | 0x200E..=0x200F | 0x2028..=0x2029 => plain(
+            at,
+            kinds::WHITESPACE,
+            next.eat_whitespace(text),
+        ),
+        0x41..=0x5A | 0x5F | 0x61..=0x7A | 0x80..=0xFFFF_FFFF => named(
+            text,
+            at,
+            c,
+            next,
+            profile,
+            start,
+            more,
+            emoji,
+        ),
+        0x22 | 0x30..=0x39 => literal(text, next, c, start, more),
+        0x23 => plain_part(at, pound(text, next)),
+        0x40 => plain_part(at, annotation(text, next, start)),
+        0x24 => plain_part(at, hardware_ident(text, next, more, emoji)),
+        0x3B => plain(at, kinds::SEMI, next),
+        0x2C => plain(at, kinds::COMMA, next),
+        0x2E => plain(at, kinds::DOT, next),
+        0x28 => plain(at, kinds::OPEN_PAREN, next),
+        0x29 => plain(at, kinds::CLOSE_PAREN, next),
+        0x7B => plain(at, kinds::OPEN_BRACE, next),
+        0x7D => plain(at, kinds::CLOSE_BRACE, next),
+        0x5B => plain(at, kinds::OPEN_BRACKET, next),
+        0x5D => plain(at, kinds::CLOSE_BRACKET, next),
+        0x7E => plain(at, kinds::TILDE, next),
+        0x3F => plain(at, kinds::QUESTION, next),
+        0x3A => plain(at, kinds::COLON, next),
+        0x3D => plain(at, kinds::EQ, next),
+        0x21 => plain(at, kinds::BANG, next),
+        0x3C => plain(at, kinds::LT, next),
+        0x3E => plain(at, kinds::GT, next),
+        0x2D => plain(at, kinds::MINUS, next),
+        0x26 => plain(at, kinds::AND, next),
+        0x7C => plain(at, kinds::OR, next),
+        0x2B => plain(at, kinds::PLUS, next),
+        0x2A => plain(at, kinds::STAR, next),
+        0x5E => plain(at, kinds::CARET, next),
+        0x25 => plain(at, kinds::PERCENT, next),
+        _ => plain(at, kinds::UNKNOWN, next),
     }
-    if is_whitespace(d.code) {
-        let end = next.eat_whitespace(text);
-        return Piece {
-            kind: kinds::WHITESPACE,
-            suffix: at,
-            end: end.at,
-        };
-    }
-    named(text, at, d.code, next, profile, start, more, emoji)
 }
 
 // The token at any place, over tables of the letters that are lent; at or past the end there is none.
@@ -309,10 +206,7 @@ pub fn advance_token(
             end: at,
         };
     }
-    let p = advance(text, at, profile, start, more, emoji);
-    Piece {
-        kind: p.kind,
-        suffix: p.suffix,
-        end: p.end,
-    }
+    let d = decode(text, at);
+    let next = Cursor { at: at + d.wide };
+    advance(text, at, d.code, next, profile, start, more, emoji)
 }
