@@ -1,11 +1,12 @@
 /*
  * oq3.h: OpenQASM 3 text cut into tokens, its renewal key, two texts compared, and the bodies of literals.
  *
- * The functions stand in the archive libabi.a, which `rt staticlib abi` writes to target/staticlib/. It is for x86-64 Linux, is compiled
- * as position-independent code, asks for no processor newer than the first x86-64, and needs memcpy and memset, which a C compiler may call in
- * any program, and nothing else:
+ * The functions stand in the archive liboq3.a, which `tools/install PREFIX` puts below PREFIX, with this header and a file for pkg-config:
  *
- *     cc -std=c99 -I include program.c target/staticlib/libabi.a
+ *     cc -std=c99 program.c $(pkg-config --cflags --libs oq3)
+ *
+ * The archive is for x86-64 Linux, is compiled as position-independent code, asks for no processor newer than the first x86-64, and needs memcpy
+ * and memset, which a C compiler may call in any program, and nothing else.
  *
  * This header is C99, and C++ too.
  *
@@ -15,14 +16,14 @@
  *    NULL is an error of the caller's, and nothing notices it.
  *  - A `uint32_t *` or `oq3_token *` is aligned to four bytes, as C asks of it anyhow. Bytes may stand anywhere. They need no NUL behind them,
  *    and a NUL among them is a character as any other.
- *  - What is written must not overlap what is read: a list, a row or a key shares no byte with a text or a table of the same call. What is only
- *    read may overlap: the two texts of a comparison, three tables, texts of calls that run side by side.
+ *  - What is written must not overlap what is read: a list, a row or a key shares no byte with a text of the same call. What is only read may
+ *    overlap: the two texts of a comparison, texts of calls that run side by side.
  *  - What is lent to be written is never read: it may hold anything before the call.
  * Nothing else is asked: every text, number and count has an answer, and it is proved that there is one only, refusals included.
  *
  * No function keeps anything between calls, asks for memory, calls another library but for these two, or fails in another way than by its answer. So
- * calls from several threads go side by side, as long as no thread writes what another's call reads or writes. A call takes less
- * than 16 KiB of stack; one of oq3_tokenize_rows or oq3_rows_of, which has oq3_tokenize count where the row is short, less than 32 KiB.
+ * calls from several threads go side by side, as long as no thread writes what another's call reads or writes. How much
+ * stack a call takes does not depend on how long a text is ("Stack", below).
  */
 #ifndef OQ3_H
 #define OQ3_H
@@ -160,61 +161,6 @@ oq3_answer oq3_tokenize(const uint8_t *text, size_t text_len, uint32_t profile, 
  * first `also` records are the tokens; those behind them are as they were, and after a refusal all are.
  */
 oq3_answer oq3_tokenize_rows(const uint8_t *text, size_t text_len, uint32_t profile, oq3_token *row, size_t records);
-
-/* A row by value, and the answer with one. */
-enum { OQ3_ROW = 64 };
-
-typedef struct oq3_records {
-    oq3_token row[OQ3_ROW];
-} oq3_records;
-
-typedef struct oq3_rows {
-    oq3_answer answer;
-    oq3_token row[OQ3_ROW];
-} oq3_rows;
-
-/*
- * oq3_tokenize_rows with no pointer but the text's: the row is passed by value, and comes back with the tokens in it. Only its first `records`
- * are lent, or all OQ3_ROW where more are asked for; the others come back as they were passed.
- */
-oq3_rows oq3_rows_of(const uint8_t *text, size_t text_len, uint32_t profile, oq3_records row, size_t records);
-
-/* The place behind a run of tokens, and how many they are. */
-typedef struct oq3_run {
-    size_t at;
-    size_t count;
-} oq3_run;
-
-/*
- * A run of tokens: those from the byte `from` on, as many as the list has room for, with what counts as a letter in three tables of the caller's
- * ("Properties of a character", below, says what a table is). For a caller that walks a long text with a short list, and goes on at `at`.
- *
- * Nothing is checked and nothing is refused. The bytes may be any: each character is read as by oq3_decode, whole or none. A profile other than
- * OQ3_PROFILE_DEBUG is taken as OQ3_PROFILE_RELEASE.
- *
- * Exactly 3 * count words are written, from list[0] on, as oq3_tokenize writes them, and those behind them are as they were. at is `from` and all the
- * lengths that were written: it is text_len where the text is done. No token is given, nothing is written and at is `from` where the text has more
- * than OQ3_LONGEST bytes, where `from` is text_len or more, and where there are fewer than OQ3_WORDS words.
- *
- * A character begins an identifier where it is '_' or passes oq3_is_xid_start_in with `start`, goes on with one where it passes
- * oq3_is_xid_continue_in with `more`, and is an emoji where it passes oq3_is_emoji_in with `emoji`. Over the tables of the three properties in
- * Unicode 15.0.0 runs that begin at 0, each where the one before it ended, give the tokens of oq3_tokenize.
- */
-oq3_run oq3_cut_run(const uint8_t *text, size_t text_len, size_t from, uint32_t profile, uint32_t *list, size_t words, const uint32_t *start,
-                    size_t start_words, const uint32_t *more, size_t more_words, const uint32_t *emoji, size_t emoji_words);
-
-/* A token by its places in the text: where its suffix starts (its end, for a literal with none; its own start, for all else), and its end. */
-typedef struct oq3_piece {
-    uint32_t kind;
-    size_t suffix;
-    size_t end;
-} oq3_piece;
-
-/*
- * The token at the byte `at`, as a run of one, with the same tables. Where a run gives no token kind is 0, which is no token's, and suffix and end are `at`.
- */
-oq3_piece oq3_token_at(const uint8_t *text, size_t text_len, size_t at, uint32_t profile, const uint32_t *start, size_t start_words,
-                       const uint32_t *more, size_t more_words, const uint32_t *emoji, size_t emoji_words);
 
 /* Tests on a character, by its number. No for a number that is no Unicode scalar value. */
 bool oq3_is_whitespace(uint32_t c);
@@ -357,11 +303,8 @@ oq3_answer oq3_is_unicode_escape_disallowed(uint32_t mode);
 /* also is the length of the literal's prefix, without the `r` of raw ones: 1 for the three modes of bytes, else 0. Refuses with 1. */
 oq3_answer oq3_prefix_noraw(uint32_t mode);
 
-/* The same by yes and no alone, and two tests more. No for a number that is no mode. */
-bool oq3_is_single(uint32_t mode);     /* OQ3_MODE_CHAR, OQ3_MODE_BYTE: one character, in single quotes */
-bool oq3_is_ascii_only(uint32_t mode); /* OQ3_MODE_BYTE, OQ3_MODE_BIT_STR, OQ3_MODE_BYTE_STR, OQ3_MODE_RAW_BYTE_STR */
-bool oq3_has_prefix(uint32_t mode);    /* OQ3_MODE_BYTE, OQ3_MODE_BYTE_STR, OQ3_MODE_RAW_BYTE_STR */
-bool oq3_is_raw(uint32_t mode);        /* OQ3_MODE_RAW_STR, OQ3_MODE_RAW_BYTE_STR: no escapes */
+/* OQ3_MODE_RAW_STR and OQ3_MODE_RAW_BYTE_STR, whose bodies have no escapes. No for any other number, be it a mode or not. */
+bool oq3_is_raw(uint32_t mode);
 
 /* Whether the error of this number, 1 to 22, is one: also is 0 for the two warnings and else 1. Refuses with 1. */
 oq3_answer oq3_is_fatal(uint32_t error);
@@ -387,34 +330,28 @@ typedef struct oq3_char {
  */
 oq3_char oq3_decode(const uint8_t *text, size_t text_len, size_t at);
 
-/* Its `code` alone. At or past the end 0, which a NUL has too. */
-uint32_t oq3_code(const uint8_t *text, size_t text_len, size_t at);
-
 /* ---- Properties of a character ------------------------------------------------------------------------------------------------ */
 
-/* Whether a character has the property in the Unicode Character Database 15.0.0. No for a number that is no Unicode scalar value. */
+/*
+ * Whether a character has the property in the Unicode Character Database 15.0.0. No for a number that is no Unicode scalar value. Unless c is ASCII a
+ * call first copies the property's table to the stack: some 5, 6 and 1 KiB, and 80 bytes for White_Space.
+ */
 bool oq3_is_xid_start(uint32_t c);
 bool oq3_is_xid_continue(uint32_t c);
 bool oq3_is_emoji(uint32_t c);       /* digits, # and * too, as the database has it */
 bool oq3_is_white_space(uint32_t c); /* White_Space: more than oq3_is_whitespace, as 0xA0, and less, as 0x200E */
 
+/* ---- Stack -------------------------------------------------------------------------------------------------------------------- */
+
 /*
- * The same with a table of the caller's for the characters from 0x80 on. Those below 0x80 are as above, and the table is not asked about them.
- *
- * A table is `words` words, two for each range: its first and its last character, both in it. The ranges are in rising order and share no character.
- * Over such a table the answer is whether one of the ranges holds c, be c a character or not. 0 words are a table that holds none. Of an odd number
- * the last is not read.
- *
- * A table that is not in order does no harm, and each has one answer too, that of a binary search (`searched` in crates/ucd/specs/Search.antt
- * defines it): yes only where one of the ranges holds c, but it may be no where one does.
- *
- * A call without a table first copies the library's own to the stack, unless c is ASCII: some 5, 6 and 1 KiB, and 80 bytes for White_Space. Who asks
- * about many characters lends a table.
+ * A call takes less stack than this many bytes, memcpy and memset and their binding at a first call included: measured, not proved, with more than a
+ * quarter to spare. Most of it is for the tables of the properties, which a call that may need them copies there.
  */
-bool oq3_is_xid_start_in(const uint32_t *table, size_t words, uint32_t c);
-bool oq3_is_xid_continue_in(const uint32_t *table, size_t words, uint32_t c);
-bool oq3_is_emoji_in(const uint32_t *table, size_t words, uint32_t c);
-bool oq3_is_white_space_in(const uint32_t *table, size_t words, uint32_t c);
+enum {
+    OQ3_STACK_TOKENIZE_ROWS = 36 * 1024, /* oq3_tokenize_rows, which has oq3_tokenize count where the row may be short */
+    OQ3_STACK_CUT = 24 * 1024,           /* oq3_tokenize, oq3_renewal_key, oq3_compare */
+    OQ3_STACK = 16 * 1024                /* each other function */
+};
 
 #ifdef __cplusplus
 }

@@ -1,7 +1,7 @@
 /*
  * test: calls each function of include/oq3.h and compares. First with values by hand, from the scope's tables and rules; then, from standard input, the members of the
  * properties, as crates/membership/stdout has them of the Rust, and the lines of the test vectors, `TASK ARGUMENTS = ANSWER`. What these do not say is
- * held to a plain model of it, written here. The last line is `N passed, M failed`.
+ * held to a plain model of it, written here, and the stack that a call takes to the bounds of oq3.h. The last line is `N passed, M failed`.
  *
  * C's own functions are declared here, so that only the compiler's headers are needed where C's for x86-64 are not at hand.
  */
@@ -21,9 +21,6 @@ void *mmap(void *, size_t, int, int, int, long);
 typedef char answer_16[sizeof(oq3_answer) == 16 && offsetof(oq3_answer, also) == 8 ? 1 : -1];
 typedef char char_16[sizeof(oq3_char) == 16 && offsetof(oq3_char, wide) == 8 ? 1 : -1];
 typedef char token_12[sizeof(oq3_token) == 12 && sizeof(oq3_item) == 12 ? 1 : -1];
-typedef char rows_784[sizeof(oq3_records) == 768 && sizeof(oq3_rows) == 784 && offsetof(oq3_rows, row) == 16 ? 1 : -1];
-typedef char run_16[sizeof(oq3_run) == 16 && offsetof(oq3_run, count) == 8 ? 1 : -1];
-typedef char piece_24[sizeof(oq3_piece) == 24 && offsetof(oq3_piece, suffix) == 8 && offsetof(oq3_piece, end) == 16 ? 1 : -1];
 typedef char sight_24[sizeof(oq3_sight) == 24 && offsetof(oq3_sight, start) == 8 && offsetof(oq3_sight, length) == 16 ? 1 : -1];
 typedef char comparison_80[sizeof(oq3_comparison) == 80 && offsetof(oq3_comparison, refusal) == 8 && offsetof(oq3_comparison, agreed) == 24
                                    && offsetof(oq3_comparison, in_old) == 32 && offsetof(oq3_comparison, in_new) == 56
@@ -67,15 +64,6 @@ static bool clean(size_t n, size_t m) {
             return false;
     for (i = 0; i < sizeof bytes; i++)
         if ((i < GUARD || GUARD + m <= i) && bytes[i] != 0xA5)
-            return false;
-    return true;
-}
-
-/* of the list's words nothing changed but the first n, as far as the guard behind so much room */
-static bool framed(size_t n, size_t room) {
-    size_t i;
-    for (i = 0; i < GUARD + room + GUARD; i++)
-        if ((i < GUARD || GUARD + n <= i) && words[i] != MARK)
             return false;
     return true;
 }
@@ -175,130 +163,6 @@ static void lists(void) {
     }
 }
 
-/* a row by value: its first records as tokenize_rows would leave them, the others and the caller's own as they were, and nothing beside the result */
-static bool by_value(const uint8_t *text, size_t len, uint32_t profile, size_t records, oq3_answer answer, const uint32_t *want) {
-    static struct {
-        uint32_t before[GUARD];
-        oq3_rows got;
-        uint32_t behind[GUARD];
-    } kept;
-    oq3_records mine;
-    size_t n = answer.number == OQ3_DONE ? (size_t)answer.also : 0, i;
-    const uint32_t *got = &kept.got.row[0].kind;
-    bool good = true;
-    memset(&kept, 0xA5, sizeof kept);
-    for (i = 0; i < OQ3_ROW; i++)
-        mine.row[i].kind = mine.row[i].length = mine.row[i].suffix = (uint32_t)(1000 + i);
-    kept.got = oq3_rows_of(text, len, profile, mine, records);
-    good = good && is(kept.got.answer, answer.number, answer.also) && n <= OQ3_ROW;
-    for (i = 0; i < OQ3_ROW; i++) {
-        uint32_t mark = (uint32_t)(1000 + i);
-        good = good && mine.row[i].kind == mark && mine.row[i].length == mark && mine.row[i].suffix == mark;
-        if (n <= i)
-            good = good && kept.got.row[i].kind == mark && kept.got.row[i].length == mark && kept.got.row[i].suffix == mark;
-    }
-    for (i = 0; i < GUARD; i++)
-        good = good && kept.before[i] == MARK && kept.behind[i] == MARK;
-    return good && memcmp(got, want, 4 * OQ3_WORDS * n) == 0;
-}
-
-static oq3_answer answer(uint32_t number, uint64_t also) {
-    oq3_answer a;
-    a.number = number;
-    a.also = also;
-    return a;
-}
-
-static void values(void) {
-    static uint8_t many[70];
-    static uint32_t semis[OQ3_WORDS * 70];
-    size_t i, k;
-    for (i = 0; i < sizeof tokens / sizeof *tokens; i++) {
-        const sample *s = tokens + i;
-        for (k = 0; k <= s->n + 1; k++)
-            check(by_value(BYTES(s->text), strlen(s->text), s->selector, k, answer(k < s->n ? OQ3_ROOM_TOO_SMALL : OQ3_DONE, s->n), s->want), s->text, __LINE__);
-    }
-    for (i = 0; i < 70; i++) {
-        many[i] = ';';
-        semis[3 * i] = OQ3_KIND_SEMI;
-        semis[3 * i + 1] = 1;
-    }
-    CHECK(by_value(many, 64, 0, 64, answer(0, 64), semis) && by_value(many, 64, 0, SIZE_MAX, answer(0, 64), semis));
-    CHECK(by_value(many, 65, 0, 65, answer(4, 65), semis) && by_value(many, 70, 0, SIZE_MAX, answer(4, 70), semis));
-    CHECK(by_value(many, 63, 1, 62, answer(4, 63), semis) && by_value(many, 63, 1, 63, answer(0, 63), semis));
-    CHECK(by_value(many, 1, 2, 64, answer(1, 0), semis) && by_value(BYTES(";\xFF"), 2, 0, 64, answer(3, 1), semis) && by_value(NULL, 0, 0, 0, answer(0, 0), semis));
-}
-
-/* ---- runs of tokens, and tables of letters */
-static bool ran(oq3_run r, size_t at, size_t count) {
-    return r.at == at && r.count == count;
-}
-
-/* one run over three small tables, with guards around its words */
-typedef struct letters {
-    const uint32_t *start, *more, *emoji;
-    size_t starts, mores, emojis;
-} letters;
-
-static oq3_run cut(const uint8_t *text, size_t len, size_t from, uint32_t profile, size_t room, letters u) {
-    fresh();
-    return oq3_cut_run(text, len, from, profile, room == 0 ? NULL : list, room, u.start, u.starts, u.more, u.mores, u.emoji, u.emojis);
-}
-
-static bool holds_words(size_t n, size_t room, const uint32_t *want) {
-    return framed(n, room) && clean(room, 0) && memcmp(list, want, 4 * n) == 0;
-}
-
-static bool piece(const uint8_t *text, size_t len, size_t at, uint32_t profile, letters u, uint32_t kind, size_t suffix, size_t end) {
-    oq3_piece p = oq3_token_at(text, len, at, profile, u.start, u.starts, u.more, u.mores, u.emoji, u.emojis);
-    return p.kind == kind && p.suffix == suffix && p.end == end;
-}
-
-static void runs(void) {
-    /* theta, alpha to omega, and theta as an emoji */
-    static const uint32_t theta[] = {0x3B8, 0x3B8}, greek[] = {0x3B1, 0x3C9};
-    static const uint32_t semi_name[] = {10, 1, 0, 5, 1, 0}, name[] = {5, 2, 0, 5, 2, 0}, all[] = {5, 4, 0}, none[] = {37, 2, 0, 37, 2, 0}, picture[] = {7, 4, 0};
-    static const uint32_t broken[] = {37, 1, 0, 37, 2, 0}, named[] = {5, 6, 0}, lines[] = {8, 6, 0}, ended[] = {44, 1, 1, 5, 1, 0};
-    static const letters no = {NULL, NULL, NULL, 0, 0, 0};
-    const uint8_t *two = BYTES("\xCE\xB8\xCE\xB8"), *semis = BYTES(";a;1s");
-    letters start = no, both = no, pictures = no, odd = no;
-    start.start = theta, start.starts = 2;
-    both = start, both.more = greek, both.mores = 2;
-    pictures.emoji = theta, pictures.emojis = 2;
-    odd = both, odd.starts = 1;
-    /* as many as there is room for, and the next from there on */
-    CHECK(ran(cut(semis, 5, 0, 0, 6, no), 2, 2) && holds_words(6, 6, semi_name));
-    CHECK(ran(cut(semis, 5, 0, 0, 8, no), 2, 2) && holds_words(6, 8, semi_name));
-    CHECK(ran(cut(semis, 5, 0, 0, 3, no), 1, 1) && holds_words(3, 3, semi_name));
-    CHECK(ran(cut(semis, 5, 1, 0, 3, no), 2, 1) && holds_words(3, 3, semi_name + 3));
-    CHECK(ran(cut(semis, 5, 3, 0, 12, no), 5, 2) && holds_words(6, 12, ended));
-    /* no room, at the end and past it: nothing is written, and the place stays */
-    CHECK(ran(cut(semis, 5, 0, 0, 0, no), 0, 0) && clean(0, 0));
-    CHECK(ran(cut(semis, 5, 1, 0, 2, no), 1, 0) && clean(0, 0));
-    CHECK(ran(cut(semis, 5, 5, 0, 9, no), 5, 0) && clean(0, 0));
-    CHECK(ran(cut(semis, 5, 6, 0, 9, no), 6, 0) && clean(0, 0));
-    CHECK(ran(cut(semis, 5, SIZE_MAX, 0, 9, no), SIZE_MAX, 0) && clean(0, 0));
-    CHECK(ran(cut(NULL, 0, 0, 0, 9, both), 0, 0) && clean(0, 0));
-    CHECK(ran(cut(NULL, 0, 7, 1, 0, both), 7, 0) && clean(0, 0));
-    /* what is a letter is said by the tables alone */
-    CHECK(ran(cut(two, 4, 0, 0, 9, no), 4, 2) && holds_words(6, 9, none));
-    CHECK(ran(cut(two, 4, 0, 0, 9, start), 4, 2) && holds_words(6, 9, name));
-    CHECK(ran(cut(two, 4, 0, 0, 9, both), 4, 1) && holds_words(3, 9, all));
-    CHECK(ran(cut(two, 4, 0, 0, 9, odd), 4, 2) && holds_words(6, 9, none));
-    CHECK(ran(cut(two, 4, 0, 0, 9, pictures), 4, 1) && holds_words(3, 9, picture));
-    /* bytes that are no characters, and profiles that are none */
-    CHECK(ran(cut(two, 4, 1, 0, 9, no), 4, 2) && holds_words(6, 9, broken));
-    CHECK(ran(cut(BYTES("pragma"), 6, 0, 0, 9, no), 6, 1) && holds_words(3, 9, named));
-    CHECK(ran(cut(BYTES("pragma"), 6, 0, 1, 9, no), 6, 1) && holds_words(3, 9, lines));
-    CHECK(ran(cut(BYTES("pragma"), 6, 0, 2, 9, no), 6, 1) && holds_words(3, 9, named));
-    CHECK(ran(cut(BYTES("pragma"), 6, 0, UINT32_MAX, 9, no), 6, 1) && holds_words(3, 9, named));
-    /* one token by its places: a literal's suffix, a literal with none, and what is no literal */
-    CHECK(piece(BYTES(";12cm"), 5, 1, 0, no, 44, 3, 5) && piece(semis, 5, 3, 0, no, 44, 4, 4) && piece(semis, 5, 1, 0, no, 5, 1, 2));
-    CHECK(piece(two, 4, 0, 0, no, 37, 0, 2) && piece(two, 4, 0, 0, both, 5, 0, 4) && piece(two, 4, 1, 0, no, 37, 1, 2));
-    CHECK(piece(BYTES("pragma"), 6, 0, 1, no, 8, 0, 6) && piece(BYTES("pragma"), 6, 0, 2, no, 5, 0, 6));
-    CHECK(piece(semis, 5, 5, 0, no, 0, 5, 5) && piece(semis, 5, SIZE_MAX, 0, no, 0, SIZE_MAX, SIZE_MAX) && piece(NULL, 0, 0, 0, no, 0, 0, 0));
-}
-
 /* each refusal, in the order of the checks, and nothing written */
 static void refusals(void) {
     static const uint8_t bad[] = {'a', 0xC2, 0xA0, 0xFF};
@@ -346,7 +210,6 @@ static void nothing(void) {
     CHECK(is(oq3_check_text(NULL, 0), 0, 0) && is(oq3_check_cut(NULL, 0, 1), 0, 0) && is(oq3_check_cut(NULL, 0, 2), 1, 0));
     CHECK(oq3_valid_up_to(NULL, 0) == 0);
     CHECK(oq3_decode(NULL, 0, 0).wide == 0 && oq3_decode(NULL, 0, SIZE_MAX).code == 0);
-    CHECK(oq3_code(NULL, 0, 0) == 0 && oq3_code(NULL, 0, SIZE_MAX) == 0);
 }
 
 /* one byte more than the longest text: memory that is reserved and never touched */
@@ -354,8 +217,6 @@ static void too_long(void) {
     size_t more = (size_t)OQ3_LONGEST + 1;
     void *at = mmap(NULL, more, 1 /* PROT_READ */, 0x4022 /* MAP_PRIVATE | MAP_ANONYMOUS | MAP_NORESERVE */, -1, 0);
     const uint8_t *text = (const uint8_t *)at;
-    static const letters no = {NULL, NULL, NULL, 0, 0, 0};
-    static const oq3_records blank = {{{0, 0, 0}}};
     oq3_comparison c;
     if (at == (void *)-1) {
         printf("test: no room for a text of 4 GiB, refusal 2 is not tried\n");
@@ -365,9 +226,6 @@ static void too_long(void) {
     CHECK(is(oq3_tokenize(text, more, 0, list, 0), 2, 0));
     CHECK(is(oq3_tokenize(text, more, 2, list, 0), 1, 0));
     CHECK(is(oq3_tokenize_rows(text, more, 0, (oq3_token *)list, 9), 2, 0));
-    CHECK(is(oq3_rows_of(text, more, 0, blank, 64).answer, 2, 0));
-    CHECK(ran(cut(text, more, 0, 0, 9, no), 0, 0) && ran(cut(text, more, 5, 0, 9, no), 5, 0));
-    CHECK(piece(text, more, 0, 0, no, 0, 0, 0) && piece(text, more, 5, 1, no, 0, 5, 5));
     CHECK(is(oq3_renewal_key(text, more, 1, key, KEY), 2, 0));
     CHECK(is(oq3_unescape_literal(text, more, 6, list, WORDS), 2, 0));
     CHECK(is(oq3_unescape_part(text, more, 0, more, 1, list, WORDS), 2, 0));
@@ -381,7 +239,7 @@ static void too_long(void) {
     c = oq3_compare(text, 1, text, more, 0);
     CHECK(c.verdict == OQ3_NEW_REFUSED && is(c.refusal, 2, 0) && c.agreed == 0);
     CHECK(oq3_place_of(text, more, 3).line == 1 && oq3_place_of(text, more, 3).column == 4);
-    CHECK(oq3_code(text, more, more - 1) == 0 && oq3_decode(text, more, more - 1).wide == 1 && oq3_decode(text, more, more).wide == 0);
+    CHECK(oq3_decode(text, more, more - 1).code == 0 && oq3_decode(text, more, more - 1).wide == 1 && oq3_decode(text, more, more).wide == 0);
 }
 
 static void keys(void) {
@@ -525,7 +383,7 @@ static bool read_as(const uint8_t *text, size_t n, size_t at) {
     oq3_char c = oq3_decode(text, n, at);
     uint32_t code, i, wide;
     if (n <= at)
-        return c.code == 0 && c.wide == 0 && oq3_code(text, n, at) == 0;
+        return c.code == 0 && c.wide == 0;
     code = text[at];
     wide = code < 0x80 ? 1 : code < 0xC0 ? 0 : code < 0xE0 ? 2 : code < 0xF0 ? 3 : code < 0xF8 ? 4 : 0;
     if (1 < wide)
@@ -541,7 +399,7 @@ static bool read_as(const uint8_t *text, size_t n, size_t at) {
         code = OQ3_NO_CHAR + text[at];
         wide = 1;
     }
-    return c.code == code && c.wide == wide && oq3_code(text, n, at) == code;
+    return c.code == code && c.wide == wide;
 }
 
 static bool all_read(const uint8_t *text, size_t n) {
@@ -552,11 +410,17 @@ static bool all_read(const uint8_t *text, size_t n) {
     return read_as(text, n, SIZE_MAX);
 }
 
-/* the modes, each with its answers: one character, ASCII only, a prefix, raw */
-static const bool modes[7][4] = {{1, 0, 0, 0}, {0, 0, 0, 0}, {1, 1, 1, 0}, {0, 1, 0, 0}, {0, 1, 1, 0}, {0, 0, 0, 1}, {0, 1, 1, 1}};
+/* the modes, each with its answers: in double quotes, ASCII only, a prefix, raw */
+static const bool modes[7][4] = {{0, 0, 0, 0}, {1, 0, 0, 0}, {0, 1, 1, 0}, {1, 1, 0, 0}, {1, 1, 1, 0}, {1, 0, 0, 1}, {1, 1, 1, 1}};
 
 static bool mode_is(uint32_t mode, const bool *want) {
-    return oq3_is_single(mode) == want[0] && oq3_is_ascii_only(mode) == want[1] && oq3_has_prefix(mode) == want[2] && oq3_is_raw(mode) == want[3];
+    return is(oq3_in_double_quotes(mode), 0, want[0]) && is(oq3_characters_should_be_ascii(mode), 0, want[1]) && is(oq3_is_unicode_escape_disallowed(mode), 0, want[1])
+           && is(oq3_prefix_noraw(mode), 0, want[2]) && oq3_is_raw(mode) == want[3];
+}
+
+static bool no_mode(uint32_t mode) {
+    return is(oq3_in_double_quotes(mode), 1, 0) && is(oq3_characters_should_be_ascii(mode), 1, 0) && is(oq3_is_unicode_escape_disallowed(mode), 1, 0)
+           && is(oq3_prefix_noraw(mode), 1, 0) && !oq3_is_raw(mode);
 }
 
 static void singles(void) {
@@ -566,9 +430,8 @@ static void singles(void) {
     uint32_t mode;
     for (mode = 0; mode < 7; mode++)
         CHECK(mode_is(mode, modes[mode]));
-    /* a number that is no mode has the answers of a plain string */
-    CHECK(mode_is(7, modes[OQ3_MODE_STR]) && mode_is(8, modes[OQ3_MODE_STR]) && mode_is(UINT32_MAX, modes[OQ3_MODE_STR]));
-    CHECK(mode_is(256 + OQ3_MODE_BYTE, modes[OQ3_MODE_STR]) && mode_is(65536 + OQ3_MODE_RAW_BYTE_STR, modes[OQ3_MODE_STR]));
+    CHECK(no_mode(7) && no_mode(8) && no_mode(UINT32_MAX));
+    CHECK(no_mode(256 + OQ3_MODE_BYTE) && no_mode(65536 + OQ3_MODE_RAW_BYTE_STR));
     CHECK(oq3_is_xid_start('a') && oq3_is_xid_start(0x3B8) && !oq3_is_xid_start('_') && !oq3_is_xid_start('0'));
     CHECK(oq3_is_xid_continue('_') && oq3_is_xid_continue('0') && oq3_is_xid_continue(0x301) && !oq3_is_xid_continue('-'));
     CHECK(oq3_is_emoji('#') && oq3_is_emoji('7') && oq3_is_emoji(0x1F600) && !oq3_is_emoji('a') && !oq3_is_emoji(0x3B8));
@@ -592,9 +455,114 @@ static void singles(void) {
         oq3_char good = oq3_decode(BYTES("a\xCE\xB8"), 3, 1), bad = oq3_decode(BYTES("a\xCE\xB8"), 3, 2);
         CHECK(good.code == 0x3B8 && good.wide == 2 && bad.code == OQ3_NO_CHAR + 0xB8 && bad.wide == 1);
     }
-    CHECK(oq3_code(BYTES("a\xCE\xB8"), 3, 0) == 'a' && oq3_code(BYTES("a\xCE\xB8"), 3, 1) == 0x3B8 && oq3_code(BYTES("a\xCE\xB8"), 3, 2) == OQ3_NO_CHAR + 0xB8);
-    CHECK(oq3_code(BYTES("a"), 1, 1) == 0 && oq3_code(BYTES("a"), 1, SIZE_MAX) == 0 && oq3_code(BYTES("\xF0\x9F\x98\x80"), 4, 0) == 0x1F600);
     CHECK(all_read(edges, sizeof edges));
+}
+
+/* ---- the stack: it is painted, and after a call the lowest byte that was written tells how much the call took */
+enum { DEPTH = 1 << 16 };
+static volatile bool painting;
+
+/*
+ * Paints DEPTH bytes below its caller, or gives how far below `top` the lowest lies that is painted over. One function, told by a variable, so that
+ * it lies in the same place both times; called out of line, else its array would lie in its caller.
+ */
+__attribute__((noinline)) static size_t below(const volatile uint8_t *top) {
+    const uint64_t paint = (uint64_t)MARK << 32 | MARK;
+    volatile uint64_t depth[DEPTH / 8];
+    size_t i;
+    for (i = 0; i < DEPTH / 8; i++)
+        if (painting)
+            depth[i] = paint;
+        else if (depth[i] != paint)
+            break;
+    return (size_t)top - (size_t)(depth + i);
+}
+
+typedef void taker(const uint8_t *, size_t, uint32_t, size_t);
+
+/* what a call takes, from here on: a little more than it takes by itself */
+__attribute__((noinline)) static size_t took(taker *take, const uint8_t *text, size_t n, uint32_t selector, size_t room) {
+    volatile uint8_t top = 0;
+    painting = true;
+    below(&top);
+    painting = false;
+    take(text, n, selector, room);
+    return below(&top);
+}
+
+static void take_rows(const uint8_t *text, size_t n, uint32_t selector, size_t room) {
+    oq3_tokenize_rows(text, n, selector % 2, (oq3_token *)list, room);
+}
+
+static void take_tokens(const uint8_t *text, size_t n, uint32_t selector, size_t room) {
+    oq3_tokenize(text, n, selector % 2, list, OQ3_WORDS * room);
+}
+
+static void take_key(const uint8_t *text, size_t n, uint32_t selector, size_t room) {
+    oq3_renewal_key(text, n, selector % 2, key, 11 * room);
+}
+
+static void take_comparison(const uint8_t *text, size_t n, uint32_t selector, size_t room) {
+    oq3_compare(text, n, text, room, selector % 2);
+}
+
+static void take_others(const uint8_t *text, size_t n, uint32_t selector, size_t room) {
+    size_t at;
+    oq3_unescape_literal(text, n, selector, list, OQ3_WORDS * room);
+    oq3_unescape_part(text, n, 1, n, selector, list, OQ3_WORDS * room);
+    oq3_unescape_char(text, n), oq3_unescape_byte(text, n), oq3_is_ident(text, n);
+    oq3_check_text(text, n), oq3_check_cut(text, n, selector), oq3_valid_up_to(text, n), oq3_place_of(text, n, n);
+    for (at = 0; at < n; at += oq3_decode(text, n, at).wide) {
+        uint32_t c = oq3_decode(text, n, at).code;
+        oq3_is_whitespace(c), oq3_is_id_start(c), oq3_is_id_continue(c), oq3_byte_from_char(c);
+        oq3_is_xid_start(c), oq3_is_xid_continue(c), oq3_is_emoji(c), oq3_is_white_space(c);
+    }
+    oq3_in_double_quotes(selector), oq3_characters_should_be_ascii(selector), oq3_is_unicode_escape_disallowed(selector);
+    oq3_prefix_noraw(selector), oq3_is_raw(selector), oq3_is_fatal(selector);
+}
+
+/* 20,000 bytes, by which the measure itself is tried */
+static void take_known(const uint8_t *text, size_t n, uint32_t selector, size_t room) {
+    volatile uint8_t known[20000];
+    size_t i;
+    (void)text, (void)n, (void)selector, (void)room;
+    for (i = 0; i < sizeof known; i++)
+        known[i] = 0;
+}
+
+static const struct {
+    const char *name;
+    taker *take;
+    size_t most;
+} takers[] = {
+    {"oq3_tokenize_rows", take_rows, OQ3_STACK_TOKENIZE_ROWS}, {"oq3_tokenize", take_tokens, OQ3_STACK_CUT},
+    {"oq3_renewal_key", take_key, OQ3_STACK_CUT},              {"oq3_compare", take_comparison, OQ3_STACK_CUT},
+    {"each other function", take_others, OQ3_STACK},
+};
+
+/* where rules turn, with a character behind that is not ASCII, so that each function reaches those that it calls */
+static const char *const turning[] = {
+    "", "\xFF", "x\xCE\xB8", "\xE4\xB8\xAD\xF0\x9F\x98\x80", "\\u{4\xC3\xA9}", "\\u{1F600}", "\\x4\xC3\xA9", "\\\n\n \xC2\xA0", "\r\xC3\xA9\\q",
+    "1.5e\xC3\xA9 1.5e+3\xC3\xA9 0x1.5\xC2\xB5s 0b1_\xCE\xBCz 1e\xC3\xA9 0o\xC3\xA9 1.\xC3\xA9 2..\xC3\xA9 3dt 4ns",
+    "\"01_1\"\xC3\xA9 \"0__1\"x \"0\n\" \"\xC3\xA9\\\"\" $_\xC3\xA9 $0 @\xC3\xA9 x\n#pragma \xC3\xA9\npragma z\xC3\xA9\n#prag\xC3\xA9 ' ; =\xC3\xA9",
+    "/* /* \xC3\xA9 */ */ // \xC3\xA9\n\xE2\x80\xA8 a\xF0\x9F\x98\x80 /* \"",
+};
+
+static void stacks(void) {
+    size_t i, k, most, known = took(take_known, NULL, 0, 0, 0);
+    uint32_t selector;
+    CHECK(20000 < known && known < 20000 + 1000);
+    for (i = 0; i < sizeof takers / sizeof *takers; i++) {
+        most = 0;
+        for (k = 0; k < sizeof turning / sizeof *turning; k++)
+            for (selector = 0; selector < 7; selector++) {
+                size_t n = strlen(turning[k]), none = took(takers[i].take, BYTES(turning[k]), n, selector, 0), much = took(takers[i].take, BYTES(turning[k]), n, selector, n + 1);
+                most = most < none ? none : most;
+                most = most < much ? much : most;
+            }
+        printf("test: %s takes up to %lu bytes of stack, of %lu\n", takers[i].name, (unsigned long)most, (unsigned long)takers[i].most);
+        check(most < takers[i].most, takers[i].name, __LINE__);
+    }
 }
 
 /* ---- the vectors: each line is answered anew and compared */
@@ -656,27 +624,21 @@ static size_t hex(uint8_t *into) {
 typedef struct property {
     const char *name;
     bool (*ask)(uint32_t);
-    bool (*ask_in)(const uint32_t *, size_t, uint32_t);
     uint32_t table[2048];
     size_t words;
 } property;
-enum { XID_START, XID_CONTINUE, EMOJI, WHITE_SPACE, PROPERTIES = 7 };
-static property properties[PROPERTIES] = {
-    {"is_xid_start", oq3_is_xid_start, oq3_is_xid_start_in, {0}, 0}, {"is_xid_continue", oq3_is_xid_continue, oq3_is_xid_continue_in, {0}, 0},
-    {"is_emoji", oq3_is_emoji, oq3_is_emoji_in, {0}, 0},             {"is_white_space", oq3_is_white_space, oq3_is_white_space_in, {0}, 0},
-    {"is_whitespace", oq3_is_whitespace, NULL, {0}, 0},              {"is_id_start", oq3_is_id_start, NULL, {0}, 0},
-    {"is_id_continue", oq3_is_id_continue, NULL, {0}, 0}};
-
-static bool holds(const uint32_t *table, size_t n, uint32_t c) {
-    size_t i;
-    for (i = 0; i + 1 < n; i += 2)
-        if (table[i] <= c && c <= table[i + 1])
-            return true;
-    return false;
-}
+enum { XID_START, XID_CONTINUE, PROPERTIES = 7 };
+static property properties[PROPERTIES] = {{"is_xid_start", oq3_is_xid_start, {0}, 0},     {"is_xid_continue", oq3_is_xid_continue, {0}, 0},
+                                          {"is_emoji", oq3_is_emoji, {0}, 0},             {"is_white_space", oq3_is_white_space, {0}, 0},
+                                          {"is_whitespace", oq3_is_whitespace, {0}, 0},   {"is_id_start", oq3_is_id_start, {0}, 0},
+                                          {"is_id_continue", oq3_is_id_continue, {0}, 0}};
 
 static bool has(const property *p, uint32_t c) {
-    return holds(p->table, p->words, c);
+    size_t i;
+    for (i = 0; i < p->words; i += 2)
+        if (p->table[i] <= c && c <= p->table[i + 1])
+            return true;
+    return false;
 }
 
 static uint32_t hex_number(void) {
@@ -711,7 +673,7 @@ static void read_property(property *p) {
     check(sum == members && p->words == 2 * ranges && 0 < ranges, p->name, __LINE__);
 }
 
-/* the test is asked at the edges of each range, at every 97th number and where there are no characters; and so is the form with a table */
+/* the test is asked at the edges of each range, at every 97th number and where there are no characters */
 static void ask_property(const property *p) {
     static const uint32_t odd[] = {0xD7FF, 0xD800, 0xDFFF, 0xE000, 0xFFFF, 0x10FFFF, 0x110000, 0x1100FF, 0x80000000, UINT32_MAX};
     bool good = true;
@@ -720,41 +682,23 @@ static void ask_property(const property *p) {
     for (i = 0; i < p->words; i += 2)
         for (k = 0; k < 2; k++) {
             uint32_t edge = p->table[i + k], beside = k == 0 ? edge - 1 : edge + 1;
-            good = good && p->ask(edge) && !p->ask(beside) && (p->ask_in == NULL || (p->ask_in(p->table, p->words, edge) && !p->ask_in(p->table, p->words, beside)));
+            good = good && p->ask(edge) && !p->ask(beside);
         }
     check(good, p->name, __LINE__);
     for (c = 0; c < 0x112000; c += c < 0x180 ? 1 : 97)
-        good = good && p->ask(c) == has(p, c) && (p->ask_in == NULL || p->ask_in(p->table, p->words, c) == has(p, c));
+        good = good && p->ask(c) == has(p, c);
     check(good, p->name, __LINE__);
     for (i = 0; i < sizeof odd / sizeof *odd; i++)
-        good = good && p->ask(odd[i]) == has(p, odd[i]) && (p->ask_in == NULL || p->ask_in(p->table, p->words, odd[i]) == has(p, odd[i]));
+        good = good && p->ask(odd[i]) == has(p, odd[i]);
     check(good, p->name, __LINE__);
-}
-
-/* tables of the caller's own: below 0x80 they are not asked */
-static void lend_tables(const property *p) {
-    static const uint32_t few[] = {0x21, 0x7F, 0x100, 0x1FF, 0x3B8, 0x3B8, 0x110000, 0x110005}, turned[] = {0x200, 0x2FF, 0x100, 0x1FF};
-    bool good = true;
-    uint32_t c;
-    size_t n;
-    for (n = 0; n <= sizeof few / sizeof *few; n++)
-        for (c = 0; c < 0x400; c++)
-            good = good && p->ask_in(n == 0 ? NULL : few, n, c) == (c < 0x80 ? has(p, c) : holds(few, n, c));
-    check(good, p->name, __LINE__);
-    check(p->ask_in(few, 8, 0x110003) && !p->ask_in(few, 6, 0x110003) && !p->ask_in(few, 7, 0x110003) && !p->ask_in(few, 8, UINT32_MAX), p->name, __LINE__);
-    /* not in order: the search ends at the second range, and says no of what the first one holds */
-    check(p->ask_in(turned, 4, 0x150) && !p->ask_in(turned, 4, 0x250) && !p->ask_in(turned, 4, 0x350) && !p->ask_in(turned, 4, 0x90), p->name, __LINE__);
 }
 
 static void members(void) {
     size_t i;
     for (i = 0; i < PROPERTIES; i++)
         read_property(properties + i);
-    for (i = 0; i < PROPERTIES; i++) {
+    for (i = 0; i < PROPERTIES; i++)
         ask_property(properties + i);
-        if (properties[i].ask_in != NULL)
-            lend_tables(properties + i);
-    }
 }
 
 static void say_answer(oq3_answer a) {
@@ -814,44 +758,11 @@ static void body(void) {
     say_records(oq3_unescape_part(text, text_len, at + 1, end, mode, list, OQ3_WORDS * (text_len + 1)));
 }
 
-/* the n tokens that were given, one by one: of what is no literal, and so has the suffix start 0, suffix is its own start */
-static bool by_places(uint32_t profile, const uint32_t *want, size_t n) {
-    const property *u = properties;
-    size_t at = 0, i;
-    for (i = 0; i < n; i++) {
-        oq3_piece p = oq3_token_at(text, text_len, at, profile, u[XID_START].table, u[XID_START].words, u[XID_CONTINUE].table, u[XID_CONTINUE].words, u[EMOJI].table, u[EMOJI].words);
-        if (p.kind != want[3 * i] || p.end != at + want[3 * i + 1] || p.suffix != at + want[3 * i + 2])
-            return false;
-        at = p.end;
-    }
-    return at == text_len;
-}
-
-/* the n tokens that were given, by runs over the tables of the properties, with little room and with much; one by one; as rows; and by value */
-static void again(uint32_t profile, oq3_answer a) {
-    static const size_t rooms[] = {3, 8, 30, WORDS};
+/* the n tokens that were given, as rows */
+static void again(uint32_t profile, size_t n) {
     static uint32_t want[WORDS];
-    const property *u = properties;
-    size_t i, k, n = (size_t)a.also;
     memcpy(want, list, 4 * OQ3_WORDS * n);
-    for (i = 0; i < sizeof rooms / sizeof *rooms; i++) {
-        size_t at = 0, done = 0, most = rooms[i] / OQ3_WORDS;
-        bool good = true;
-        do {
-            oq3_run r;
-            memset(words, 0xA5, 4 * (GUARD + rooms[i] + GUARD));
-            r = oq3_cut_run(text, text_len, at, profile, list, rooms[i], u[XID_START].table, u[XID_START].words, u[XID_CONTINUE].table, u[XID_CONTINUE].words, u[EMOJI].table, u[EMOJI].words);
-            good = good && r.count == (n - done < most ? n - done : most) && framed(OQ3_WORDS * r.count, rooms[i]) && memcmp(list, want + OQ3_WORDS * done, 4 * OQ3_WORDS * r.count) == 0;
-            for (k = 0; good && k < r.count; k++)
-                at += list[3 * k + 1];
-            done += r.count;
-            good = good && r.at == at;
-        } while (good && done < n);
-        check(good && at == text_len, line, __LINE__);
-    }
-    check(by_places(profile, want, n), line, __LINE__);
     check(fills(tokenize_rows, text, text_len, profile, want, n), line, __LINE__);
-    check(by_value(text, text_len, profile, OQ3_ROW, n <= OQ3_ROW ? a : answer(OQ3_ROOM_TOO_SMALL, n), want), line, __LINE__);
 }
 
 /* the tasks that write; whether the line is one */
@@ -867,7 +778,7 @@ static bool writing(void) {
         say_records(a);
         check(tiles(a), line, __LINE__);
         if (a.number == OQ3_DONE)
-            again(selector, a);
+            again(selector, (size_t)a.also);
     } else if (task("unescape")) {
         selector = (uint32_t)number();
         text_len = hex(text);
@@ -881,11 +792,9 @@ static bool writing(void) {
         say_room(task("tokroom") ? oq3_tokenize(text, text_len, selector, list, room) : oq3_unescape_literal(text, text_len, selector, list, room), room);
     } else if (task("rowroom")) {
         selector = (uint32_t)number();
-        room = at_most(number(), OQ3_ROW);
+        room = at_most(number(), WORDS / OQ3_WORDS);
         text_len = hex(text);
-        a = oq3_tokenize_rows(text, text_len, selector, (oq3_token *)list, room);
-        say_room(a, OQ3_WORDS * room);
-        check(by_value(text, text_len, selector, room, a, list), line, __LINE__);
+        say_room(oq3_tokenize_rows(text, text_len, selector, (oq3_token *)list, room), OQ3_WORDS * room);
     } else
         return false;
     return true;
@@ -945,12 +854,14 @@ static bool reading(void) {
     else if (task("mode")) {
         uint32_t mode = (uint32_t)number();
         say_answer(oq3_in_double_quotes(mode));
-        if (oq3_in_double_quotes(mode).number != 0)
-            return oq3_characters_should_be_ascii(mode).number == 1 && oq3_is_unicode_escape_disallowed(mode).number == 1 && oq3_prefix_noraw(mode).number == 1;
+        if (oq3_in_double_quotes(mode).number != 0) {
+            check(no_mode(mode), line, __LINE__);
+            return true;
+        }
         say(oq3_characters_should_be_ascii(mode).also, " ");
         say(oq3_is_unicode_escape_disallowed(mode).also, " ");
         say(oq3_prefix_noraw(mode).also, " ");
-        check(oq3_is_single(mode) != oq3_in_double_quotes(mode).also && mode_is(mode, modes[mode]), line, __LINE__);
+        check(mode_is(mode, modes[mode]), line, __LINE__);
     } else if (task("cp")) {
         uint32_t c = (uint32_t)number();
         say(oq3_is_whitespace(c), "");
@@ -1000,14 +911,13 @@ static void vectors(void) {
 
 int main(void) {
     lists();
-    values();
-    runs();
     refusals();
     nothing();
     too_long();
     keys();
     comparisons();
     singles();
+    stacks();
     members();
     vectors();
     printf("%lu passed, %lu failed\n", passed, failed);

@@ -1,33 +1,24 @@
-// The names that C and Rust link, one for each public function of the libraries: each is one call, under the promise of the function that it
-// calls. include/oq3.h declares them.
+// The names that C and Rust link, one for each public function of the libraries that a caller there can use and that no other name serves: each is
+// one call, under the promise of the function that it calls. include/oq3.h declares them.
 ghost use mathlib.Core.Path.{_≡_};
 ghost use mathlib.Core.Bool.{true, false};
 ghost use Prim.Native.Nat.{_%_};
-ghost use lib.ListN.{drop};
-ghost use Rattle.unicode.specs.Utf8.{first, validUpTo};
+ghost use Rattle.unicode.specs.Utf8.{validUpTo};
 ghost use Rattle.unicode.specs.Text.{Decoded};
-ghost use Rattle.ucd.specs.Properties.{isXidStart, isXidContinue, isEmoji, isWhiteSpace, asciiStart, asciiContinue, asciiEmoji, asciiSpace, testedIn};
+ghost use Rattle.ucd.specs.Properties.{isXidStart, isXidContinue, isEmoji, isWhiteSpace};
 ghost use Rattle.text.specs.Answer.{Answered, checkText, checkCut};
 ghost use Rattle.letters.specs.Chars.{isWhitespace, isIdStart, isIdContinue};
-ghost use Rattle.lexer.specs.Unicode.{lent};
-ghost use Rattle.lexer.specs.Outcome.{Listed, CutRun, TokenAt, identified};
-ghost use Rattle.modes.specs.Modes.{testedMode, isSingle, inDoubleQuotes, charactersShouldBeAscii, isUnicodeEscapeDisallowed, hasPrefix, isRaw};
+ghost use Rattle.lexer.specs.Promises.{Listed, identified};
+ghost use Rattle.modes.specs.Modes.{testedMode, inDoubleQuotes, charactersShouldBeAscii, isUnicodeEscapeDisallowed, hasPrefix, isRaw};
 ghost use Rattle.modes.specs.Errors.{fatal};
-ghost use Rattle.unescape.specs.Outcome.{Unescaped, part, single};
-ghost use Rattle.renewal.specs.Outcome.{Keyed};
-ghost use Rattle.rows.specs.Rows.{Rowed, Bridged};
+ghost use Rattle.unescape.specs.Promises.{Unescaped, part, single};
+ghost use Rattle.renewal.specs.Promises.{Keyed};
+ghost use Rattle.rows.specs.Rows.{Rowed};
 ghost use Rattle.same.specs.Compare.{Compared, compared};
 ghost use Rattle.same.specs.Places.{Placed, placeOf};
-use lexer::list::Piece;
-use lexer::list::Run;
-use lexer::list::cut_run;
-use lexer::list::token_at;
 use lexer::list::tokenize;
 use renewal::renewal_key;
-use rows::Row;
-use rows::Rows;
 use rows::Token;
-use rows::rows_of;
 use rows::tokenize_rows;
 use same::Comparison;
 use same::Place;
@@ -39,7 +30,6 @@ use text::check_text;
 use unescape::unescape_literal;
 use unescape::unescape_part;
 use unicode::utf8::Char;
-use unicode::utf8::code;
 use unicode::utf8::decode;
 use unicode::utf8::valid_up_to;
 
@@ -56,49 +46,6 @@ pub extern "C" fn oq3_tokenize_rows(text: &[u8], profile: u32, row: &mut [Token]
     ensures { λ r. ⌜ Rowed (now (text .entry)) profile (now (row .entry)) (r .number) (r .also) (now (row .exit)) ⌝ }
 {
     tokenize_rows(text, profile, row)
-}
-
-// A row of 64 records: C passes no array by value, and passes this.
-#[repr(C)]
-pub struct Records {
-    pub row: Row,
-}
-
-#[no_mangle]
-pub extern "C" fn oq3_rows_of(text: &[u8], profile: u32, row: Records, records: usize) -> Rows
-    ensures { λ r. ⌜ Bridged (now (text .entry)) profile records (row .row) (r .answer .number) (r .answer .also) (r .row) ⌝ }
-{
-    let given = row.row;
-    rows_of(text, profile, given, records)
-}
-
-#[no_mangle]
-pub extern "C" fn oq3_cut_run(
-    text: &[u8],
-    from: usize,
-    profile: u32,
-    list: &mut [u32],
-    start: &[u32],
-    more: &[u32],
-    emoji: &[u32],
-) -> Run
-    ensures { λ r. ⌜ CutRun (lent (now (start .entry)) (now (more .entry)) (now (emoji .entry))) profile (now (text .entry)) from (now (list .entry)) (r .at) (r .count) (now (list .exit)) ⌝ }
-{
-    cut_run(text, from, profile, list, start, more, emoji)
-}
-
-#[no_mangle]
-pub extern "C" fn oq3_token_at(
-    text: &[u8],
-    at: usize,
-    profile: u32,
-    start: &[u32],
-    more: &[u32],
-    emoji: &[u32],
-) -> Piece
-    ensures { λ r. ⌜ TokenAt (lent (now (start .entry)) (now (more .entry)) (now (emoji .entry))) profile (now (text .entry)) at (r .kind) (r .suffix) (r .end) ⌝ }
-{
-    token_at(text, at, profile, start, more, emoji)
 }
 
 #[no_mangle]
@@ -223,27 +170,6 @@ pub extern "C" fn oq3_prefix_noraw(mode: u32) -> Answer
 }
 
 #[no_mangle]
-pub extern "C" fn oq3_is_single(mode: u32) -> bool
-    ensures { λ r. ⌜ r ≡ isSingle mode ⌝ }
-{
-    modes::is_single(mode)
-}
-
-#[no_mangle]
-pub extern "C" fn oq3_is_ascii_only(mode: u32) -> bool
-    ensures { λ r. ⌜ r ≡ charactersShouldBeAscii mode ⌝ }
-{
-    modes::is_ascii_only(mode)
-}
-
-#[no_mangle]
-pub extern "C" fn oq3_has_prefix(mode: u32) -> bool
-    ensures { λ r. ⌜ r ≡ hasPrefix mode ⌝ }
-{
-    modes::has_prefix(mode)
-}
-
-#[no_mangle]
 pub extern "C" fn oq3_is_raw(mode: u32) -> bool
     ensures { λ r. ⌜ r ≡ isRaw mode ⌝ }
 {
@@ -286,26 +212,12 @@ pub extern "C" fn oq3_decode(text: &[u8], at: usize) -> Char
     decode(text, at)
 }
 
-#[no_mangle]
-pub extern "C" fn oq3_code(text: &[u8], at: usize) -> u32
-    ensures { λ r. ⌜ r ≡ first (drop at (now (text .entry))) .0 ⌝ }
-{
-    code(text, at)
-}
-
 // ---- the properties of a character
 #[no_mangle]
 pub extern "C" fn oq3_is_xid_start(c: u32) -> bool
     ensures { λ r. ⌜ r ≡ isXidStart c ⌝ }
 {
     ucd::is_xid_start(c)
-}
-
-#[no_mangle]
-pub extern "C" fn oq3_is_xid_start_in(table: &[u32], c: u32) -> bool
-    ensures { λ r. ⌜ r ≡ testedIn asciiStart (now (table .entry)) c ⌝ }
-{
-    ucd::is_xid_start_in(table, c)
 }
 
 #[no_mangle]
@@ -316,13 +228,6 @@ pub extern "C" fn oq3_is_xid_continue(c: u32) -> bool
 }
 
 #[no_mangle]
-pub extern "C" fn oq3_is_xid_continue_in(table: &[u32], c: u32) -> bool
-    ensures { λ r. ⌜ r ≡ testedIn asciiContinue (now (table .entry)) c ⌝ }
-{
-    ucd::is_xid_continue_in(table, c)
-}
-
-#[no_mangle]
 pub extern "C" fn oq3_is_emoji(c: u32) -> bool
     ensures { λ r. ⌜ r ≡ isEmoji c ⌝ }
 {
@@ -330,22 +235,8 @@ pub extern "C" fn oq3_is_emoji(c: u32) -> bool
 }
 
 #[no_mangle]
-pub extern "C" fn oq3_is_emoji_in(table: &[u32], c: u32) -> bool
-    ensures { λ r. ⌜ r ≡ testedIn asciiEmoji (now (table .entry)) c ⌝ }
-{
-    ucd::is_emoji_in(table, c)
-}
-
-#[no_mangle]
 pub extern "C" fn oq3_is_white_space(c: u32) -> bool
     ensures { λ r. ⌜ r ≡ isWhiteSpace c ⌝ }
 {
     ucd::is_white_space(c)
-}
-
-#[no_mangle]
-pub extern "C" fn oq3_is_white_space_in(table: &[u32], c: u32) -> bool
-    ensures { λ r. ⌜ r ≡ testedIn asciiSpace (now (table .entry)) c ⌝ }
-{
-    ucd::is_white_space_in(table, c)
 }

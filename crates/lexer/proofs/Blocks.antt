@@ -14,7 +14,8 @@ use borrow.Author.Tests.{eq-eqb, ne-eqb, le-leb, lt-leb, eqb-true}
 use Rattle.lists.proofs.Bools.{by-test, both, and-false}
 use Rattle.lists.proofs.Cut.{by-length}
 use Rattle.unicode.specs.Utf8.{first, chars}
-use Rattle.unicode.specs.Text.{Place, left, skip}
+use Rattle.unicode.specs.Steps.{Place}
+use Rattle.unicode.specs.Text.{left, skip}
 use Rattle.unicode.proofs.Text.{chars-nil, chars-first, from-place}
 use Rattle.unicode.proofs.Ascii.{wide, chars-ascii}
 use Rattle.lexer.specs.Cut.{peek, notLf, opens, closes, block, slash}

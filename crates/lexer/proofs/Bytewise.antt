@@ -12,7 +12,8 @@ use lib.Dec.{eqb}
 use borrow.Author.Tests.{eq-eqb, ne-eqb, lt-leb, not-true}
 use Rattle.lists.proofs.Bools.{and-false}
 use Rattle.unicode.specs.Utf8.{first, chars}
-use Rattle.unicode.specs.Text.{Place, Eating, Ate, left, keep, skip}
+use Rattle.unicode.specs.Steps.{Place, Eating, Ate}
+use Rattle.unicode.specs.Text.{left, keep, skip}
 use Rattle.unicode.proofs.Text.{chars-nil, chars-first}
 use Rattle.unicode.proofs.Ascii.{chars-ascii, wide-code, Going, going-none, going-on, going-halt, going-end, skip-halt, skip-end}
 use Rattle.lexer.specs.Cut.{peek, notLf, isDigit, isHexDigit, orUnderscore, met}

@@ -8,11 +8,12 @@ use mathlib.Core.List.{List, tail}
 use lib.ListN.{length}
 use lib.Dec.{eqb}
 use borrow.Author.Tests.{eq-eqb, ne-eqb, not-true, not-false}
-use Rattle.unicode.specs.Text.{Place, Ate, left, skip}
+use Rattle.unicode.specs.Steps.{Place, Ate}
+use Rattle.unicode.specs.Text.{left, skip}
 use Rattle.unicode.proofs.Text.{from-place}
-use Rattle.lexer.specs.Cut.{peek, isDigit, isHexDigit, isE, orUnderscore, met, digits, exponent, exponentOf, point, fraction, based, number, isUnit, identifier, suffix}
+use Rattle.lexer.specs.Cut.{peek, isDigit, isHexDigit, isE, orUnderscore, met, digits, exponent, exponentOf, point, fraction, based, number, isUnit, identifier, numberSuffix}
 use Rattle.lexer.specs.Kinds.{int, float}
-use Rattle.lexer.specs.Unicode.{startIn, moreIn, lent}
+use Rattle.lexer.specs.Unicode.{startIn, moreIn}
 use Rattle.lexer.specs.Steps.{Parted}
 
 -- the place itself
@@ -169,26 +170,26 @@ module _ (c : ℕ) (s : List ℕ) (at : ℕ) where
   number-other z d r = plainly (rw (ne-eqb c 0x30 z)) d r
 
 -- ---- suffixes
-module _ (start more emoji s : List ℕ) (at : ℕ) {x : ℕ} {b : Bool} (f : x ≡ peek (left s at)) (o : b ≡ startIn start x) where
-  pub identifier-none : not b ≡ true → at ≤ length s → Place s at at (identifier (lent start more emoji) (left s at))
+module _ (start more s : List ℕ) (at : ℕ) {x : ℕ} {b : Bool} (f : x ≡ peek (left s at)) (o : b ≡ startIn start x) where
+  pub identifier-none : not b ≡ true → at ≤ length s → Place s at at (identifier (startIn start) (moreIn more) (left s at))
   unfolding identifier
   identifier-none t l =
       let h : startIn start (peek (left s at)) ≡ false = rw f at (sym o ∙ not-true b t) in
       record { after = omega arith; within = l; there = rw h }
 
-  pub identifier-eaten : {a end : ℕ} → not b ≡ false → Place s at a (tail (left s at)) → Place s a end (skip (moreIn more) (left s a)) → Place s at end (identifier (lent start more emoji) (left s at))
+  pub identifier-eaten : {a end : ℕ} → not b ≡ false → Place s at a (tail (left s at)) → Place s a end (skip (moreIn more) (left s a)) → Place s at end (identifier (startIn start) (moreIn more) (left s at))
   unfolding identifier
   identifier-eaten t p q =
       let h : startIn start (peek (left s at)) ≡ true = rw f at (sym o ∙ not-false b t) in
       rw h (from-place p q (ap (skip (moreIn more)) (p .there)))
 
-module _ (start more emoji s : List ℕ) (at : ℕ) {b : Bool} (o : b ≡ isUnit (peek (left s at)) (peek (tail (left s at)))) where
-  pub suffix-unit : b ≡ true → at ≤ length s → Place s at at (suffix (lent start more emoji) (left s at))
-  unfolding suffix
+module _ (start more s : List ℕ) (at : ℕ) {b : Bool} (o : b ≡ isUnit (peek (left s at)) (peek (tail (left s at)))) where
+  pub suffix-unit : b ≡ true → at ≤ length s → Place s at at (numberSuffix (startIn start) (moreIn more) (left s at))
+  unfolding numberSuffix
   suffix-unit t l = record { after = omega arith; within = l; there = rw (sym o ∙ t) }
 
-  pub suffix-eaten : {end : ℕ} → b ≡ false → Place s at end (identifier (lent start more emoji) (left s at)) → Place s at end (suffix (lent start more emoji) (left s at))
-  unfolding suffix
+  pub suffix-eaten : {end : ℕ} → b ≡ false → Place s at end (identifier (startIn start) (moreIn more) (left s at)) → Place s at end (numberSuffix (startIn start) (moreIn more) (left s at))
+  unfolding numberSuffix
   suffix-eaten t p = rw (sym o ∙ t) p
 
 pub unit-at : {s : List ℕ} {at a x y : ℕ} {r : Bool} → x ≡ peek (left s at) → Place s at a (tail (left s at)) → y ≡ peek (left s a) → r ≡ isUnit x y → r ≡ isUnit (peek (left s at)) (peek (tail (left s at)))

@@ -15,13 +15,14 @@ use Rattle.lists.proofs.Bools.{by-test}
 use Rattle.unicode.specs.Utf8.{chars}
 use Rattle.unicode.specs.Ranges.{flat}
 use Rattle.ucd.specs.Ucd.{xidStart, xidContinue}
-use Rattle.unicode.specs.Text.{Decoded, Place, left, skip}
+use Rattle.unicode.specs.Text.{Decoded, left, skip}
+use Rattle.unicode.specs.Steps.{Place}
 use Rattle.unicode.proofs.Text.{decoded-point, point-at, left-end, skip-nil, skip-more, skip-stop}
 use Rattle.text.specs.Answer.{Answered, done, checkText}
 use Rattle.letters.specs.Chars.{identBy, isIdent}
 use Rattle.lexer.specs.Cut.{Letters}
 use Rattle.lexer.specs.Unicode.{startIn, moreIn, unicode}
-use Rattle.lexer.specs.Outcome.{identified}
+use Rattle.lexer.specs.Promises.{identified}
 use Rattle.lexer.proofs.Unicode.{lent-is}
 use Rattle.lexer.proofs.Flags.{pick-yes, pick-no}
 

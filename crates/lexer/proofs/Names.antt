@@ -11,12 +11,13 @@ use lib.ListN.{length, drop, getD, drop-of-length-le}
 use lib.Seq.{drop-cons, drop-drop}
 use lib.Dec.{leb}
 use borrow.Author.Tests.{eq-eqb, ne-eqb, lt-leb}
-use Rattle.unicode.specs.Text.{Decoded, Place, Ate, left, skip}
+use Rattle.unicode.specs.Text.{Decoded, left, skip}
+use Rattle.unicode.specs.Steps.{Place, Ate}
 use Rattle.unicode.proofs.Text.{decoded-point, left-end, from-place, skip-nil, skip-stop}
 use Rattle.unicode.proofs.Ascii.{ascii-decoded}
 use Rattle.lexer.specs.Cut.{peek, notLf, isDigit, orUnderscore, met, digits, agree, pragmaWord, pound, wideEmoji, goesOn, name, word, annotated, hardware}
 use Rattle.lexer.specs.Kinds.{ident, hardwareIdent, invalidIdent, pragma, annotation, atSign, dollar}
-use Rattle.lexer.specs.Unicode.{startIn, moreIn, lent}
+use Rattle.lexer.specs.Unicode.{startIn, moreIn, emojiIn}
 use Rattle.lexer.specs.Steps.{Parted, Agreed, Ran}
 use Rattle.lexer.proofs.Digits.{stay, parted, ate-digits}
 
@@ -78,30 +79,30 @@ module _ {s : List ℕ} {at n e : ℕ} (a : Agreed pragmaWord s at n e) where
       (rw (← a .many) (a .place))
 
 -- ---- identifiers
-module _ (start more emoji s : List ℕ) (at : ℕ) where
-  module _ {e x : ℕ} {b : Bool} (p : Place s at e (skip (moreIn more) (left s at))) (f : x ≡ peek (left s e)) (o : b ≡ wideEmoji (lent start more emoji) x) where
+module _ (more emoji s : List ℕ) (at : ℕ) where
+  module _ {e x : ℕ} {b : Bool} (p : Place s at e (skip (moreIn more) (left s at))) (f : x ≡ peek (left s e)) (o : b ≡ wideEmoji (emojiIn emoji) x) where
     seen : peek (skip (moreIn more) (left s at)) ≡ x
     seen = ap peek (sym (p .there)) ∙ sym f
 
-    pub name-fake : {end kind : ℕ} → b ≡ true → Place s e end (skip (goesOn (lent start more emoji)) (left s e)) → kind ≡ invalidIdent → Parted (name (lent start more emoji)) s at kind end
+    pub name-fake : {end kind : ℕ} → b ≡ true → Place s e end (skip (goesOn (moreIn more) (emojiIn emoji)) (left s e)) → kind ≡ invalidIdent → Parted (name (moreIn more) (emojiIn emoji)) s at kind end
     unfolding name
     name-fake t q k =
-        let h : wideEmoji (lent start more emoji) (peek (skip (moreIn more) (left s at))) ≡ true = rw seen (sym o ∙ t) in
-        parted (name (lent start more emoji)) s at (invalidIdent, skip (goesOn (lent start more emoji)) (skip (moreIn more) (left s at))) (rw h) k
-        (from-place p q (ap (skip (goesOn (lent start more emoji))) (p .there)))
+        let h : wideEmoji (emojiIn emoji) (peek (skip (moreIn more) (left s at))) ≡ true = rw seen (sym o ∙ t) in
+        parted (name (moreIn more) (emojiIn emoji)) s at (invalidIdent, skip (goesOn (moreIn more) (emojiIn emoji)) (skip (moreIn more) (left s at))) (rw h) k
+        (from-place p q (ap (skip (goesOn (moreIn more) (emojiIn emoji))) (p .there)))
 
-    pub name-plain : {kind : ℕ} → b ≡ false → kind ≡ ident → Parted (name (lent start more emoji)) s at kind e
+    pub name-plain : {kind : ℕ} → b ≡ false → kind ≡ ident → Parted (name (moreIn more) (emojiIn emoji)) s at kind e
     unfolding name
     name-plain t k =
-        let h : wideEmoji (lent start more emoji) (peek (skip (moreIn more) (left s at))) ≡ false = rw seen (sym o ∙ t) in
-        parted (name (lent start more emoji)) s at (ident, skip (moreIn more) (left s at)) (rw h) k p
+        let h : wideEmoji (emojiIn emoji) (peek (skip (moreIn more) (left s at))) ≡ false = rw seen (sym o ∙ t) in
+        parted (name (moreIn more) (emojiIn emoji)) s at (ident, skip (moreIn more) (left s at)) (rw h) k p
 
   -- behind a run of ASCII: it ends there, or goes on from there
   abbrev by-skip : List ℕ → ℕ × List ℕ
-  by-skip r = cond (wideEmoji (lent start more emoji) (peek r)) (invalidIdent, skip (goesOn (lent start more emoji)) r) (ident, r)
+  by-skip r = cond (wideEmoji (emojiIn emoji) (peek r)) (invalidIdent, skip (goesOn (moreIn more) (emojiIn emoji)) r) (ident, r)
 
   module _ {e : ℕ} (p : Ran (moreIn more) s at e) where
-    name-same : name (lent start more emoji) (left s at) ≡ by-skip (skip (moreIn more) (left s e))
+    name-same : name (moreIn more) (emojiIn emoji) (left s at) ≡ by-skip (skip (moreIn more) (left s e))
     unfolding name
     name-same = ap by-skip (sym (p .same))
 
@@ -117,65 +118,65 @@ module _ (start more emoji s : List ℕ) (at : ℕ) where
               (ap (skip (moreIn more)) z ∙ skip-nil (moreIn more) ∙ sym z, rw z (omega arith))
         ]
 
-    pub name-ascii : {b kind : ℕ} → b ≡ getD s e 0 → b < 0x80 → kind ≡ ident → Parted (name (lent start more emoji)) s at kind e
+    pub name-ascii : {b kind : ℕ} → b ≡ getD s e 0 → b < 0x80 → kind ≡ ident → Parted (name (moreIn more) (emojiIn emoji)) s at kind e
     name-ascii f h k =
         let q = left-there (omega arith) in
         let g : leb 0x80 (peek (left s e)) ≡ false = lt-leb 0x80 (peek (left s e)) (q .1) in
-        parted (name (lent start more emoji)) s at (ident, left s e) (name-same ∙ ap by-skip (q .0) ∙ rw g) k (record { after = p .after; within = p .within; there = refl })
+        parted (name (moreIn more) (emojiIn emoji)) s at (ident, left s e) (name-same ∙ ap by-skip (q .0) ∙ rw g) k (record { after = p .after; within = p .within; there = refl })
 
-    pub name-run : {end kind end′ kind′ : ℕ} → Parted (name (lent start more emoji)) s e kind end → kind′ ≡ kind → end′ ≡ end → Parted (name (lent start more emoji)) s at kind′ end′
+    pub name-run : {end kind end′ kind′ : ℕ} → Parted (name (moreIn more) (emojiIn emoji)) s e kind end → kind′ ≡ kind → end′ ≡ end → Parted (name (moreIn more) (emojiIn emoji)) s at kind′ end′
     unfolding name
     name-run q k u =
-        parted (name (lent start more emoji)) s at (by-skip (skip (moreIn more) (left s e))) name-same (k ∙ q .what)
+        parted (name (moreIn more) (emojiIn emoji)) s at (by-skip (skip (moreIn more) (left s e))) name-same (k ∙ q .what)
         (rw u (record { after = omega (arith, p .after, q .place .after); within = q .place .within; there = q .place .there }))
 
   -- behind c, which stands at `own`
   module _ (profile c : ℕ) where
-    pub word-pragma : {own n e end kind : ℕ} → profile ≡ 1 → left s own ≡ c ∷ left s at → Agreed pragmaWord s own n e → n ≡ 6 → Place s at end (skip notLf (left s at)) → kind ≡ pragma → Parted (word (lent start more emoji) profile c) s at kind end
+    pub word-pragma : {own n e end kind : ℕ} → profile ≡ 1 → left s own ≡ c ∷ left s at → Agreed pragmaWord s own n e → n ≡ 6 → Place s at end (skip notLf (left s at)) → kind ≡ pragma → Parted (word (moreIn more) (emojiIn emoji) profile c) s at kind end
     unfolding word
     word-pragma z v a h p k =
         let i : agree pragmaWord (c ∷ left s at) ≡ 6 = ap (agree pragmaWord) (sym v) ∙ sym (a .many) ∙ h in
-        parted (word (lent start more emoji) profile c) s at (pragma, skip notLf (left s at)) (rw (eq-eqb profile 1 z, eq-eqb _ 6 i)) k p
+        parted (word (moreIn more) (emojiIn emoji) profile c) s at (pragma, skip notLf (left s at)) (rw (eq-eqb profile 1 z, eq-eqb _ 6 i)) k p
 
-    pub word-not-pragma : {own n e end kind : ℕ} → profile ≡ 1 → left s own ≡ c ∷ left s at → Agreed pragmaWord s own n e → (n ≡ 6 → ⊥) → Parted (name (lent start more emoji)) s at kind end → Parted (word (lent start more emoji) profile c) s at kind end
+    pub word-not-pragma : {own n e end kind : ℕ} → profile ≡ 1 → left s own ≡ c ∷ left s at → Agreed pragmaWord s own n e → (n ≡ 6 → ⊥) → Parted (name (moreIn more) (emojiIn emoji)) s at kind end → Parted (word (moreIn more) (emojiIn emoji) profile c) s at kind end
     unfolding word
     word-not-pragma z v a h r =
         let i : agree pragmaWord (c ∷ left s at) ≡ 6 → ⊥ = λ y. h (a .many ∙ ap (agree pragmaWord) v ∙ y) in
-        parted (word (lent start more emoji) profile c) s at (name (lent start more emoji) (left s at)) (rw (eq-eqb profile 1 z, ne-eqb _ 6 i)) (r .what) (r .place)
+        parted (word (moreIn more) (emojiIn emoji) profile c) s at (name (moreIn more) (emojiIn emoji) (left s at)) (rw (eq-eqb profile 1 z, ne-eqb _ 6 i)) (r .what) (r .place)
 
-    pub word-plain : {end kind : ℕ} → (profile ≡ 1 → ⊥) → Parted (name (lent start more emoji)) s at kind end → Parted (word (lent start more emoji) profile c) s at kind end
+    pub word-plain : {end kind : ℕ} → (profile ≡ 1 → ⊥) → Parted (name (moreIn more) (emojiIn emoji)) s at kind end → Parted (word (moreIn more) (emojiIn emoji) profile c) s at kind end
     unfolding word
     word-plain z r =
-        parted (word (lent start more emoji) profile c) s at (name (lent start more emoji) (left s at)) (rw (ne-eqb profile 1 z)) (r .what) (r .place)
-
-  -- ---- behind @
-  module _ {x : ℕ} {b : Bool} (f : x ≡ peek (left s at)) (o : b ≡ startIn start x) where
-    pub annotated-line : {end kind : ℕ} → b ≡ true → Place s at end (skip notLf (left s at)) → kind ≡ annotation → Parted (annotated (lent start more emoji)) s at kind end
-    unfolding annotated
-    annotated-line t p k =
-        let h : startIn start (peek (left s at)) ≡ true = rw f at (sym o ∙ t) in
-        parted (annotated (lent start more emoji)) s at (annotation, skip notLf (left s at)) (rw h) k p
-
-    pub annotated-none : {kind : ℕ} → b ≡ false → at ≤ length s → kind ≡ atSign → Parted (annotated (lent start more emoji)) s at kind at
-    unfolding annotated
-    annotated-none t l k =
-        let h : startIn start (peek (left s at)) ≡ false = rw f at (sym o ∙ t) in
-        parted (annotated (lent start more emoji)) s at (atSign, left s at) (rw h) k (stay l)
+        parted (word (moreIn more) (emojiIn emoji) profile c) s at (name (moreIn more) (emojiIn emoji) (left s at)) (rw (ne-eqb profile 1 z)) (r .what) (r .place)
 
   -- ---- behind $
-  module _ {x : ℕ} {b : Bool} (f : x ≡ peek (left s at)) (o : b ≡ wideEmoji (lent start more emoji) x) where
-    pub hardware-fake : {e end kind : ℕ} → b ≡ true → Place s at e (skip (moreIn more) (left s at)) → Place s e end (skip (goesOn (lent start more emoji)) (left s e)) → kind ≡ invalidIdent → Parted (hardware (lent start more emoji)) s at kind end
+  module _ {x : ℕ} {b : Bool} (f : x ≡ peek (left s at)) (o : b ≡ wideEmoji (emojiIn emoji) x) where
+    pub hardware-fake : {e end kind : ℕ} → b ≡ true → Place s at e (skip (moreIn more) (left s at)) → Place s e end (skip (goesOn (moreIn more) (emojiIn emoji)) (left s e)) → kind ≡ invalidIdent → Parted (hardware (moreIn more) (emojiIn emoji)) s at kind end
     unfolding hardware
     hardware-fake t p q k =
-        let h : wideEmoji (lent start more emoji) (peek (left s at)) ≡ true = rw f at (sym o ∙ t) in
-        parted (hardware (lent start more emoji)) s at (invalidIdent, skip (goesOn (lent start more emoji)) (skip (moreIn more) (left s at))) (rw h) k
-        (from-place p q (ap (skip (goesOn (lent start more emoji))) (p .there)))
+        let h : wideEmoji (emojiIn emoji) (peek (left s at)) ≡ true = rw f at (sym o ∙ t) in
+        parted (hardware (moreIn more) (emojiIn emoji)) s at (invalidIdent, skip (goesOn (moreIn more) (emojiIn emoji)) (skip (moreIn more) (left s at))) (rw h) k
+        (from-place p q (ap (skip (goesOn (moreIn more) (emojiIn emoji))) (p .there)))
 
-    pub hardware-digits : {end kind : ℕ} {any : Bool} → b ≡ false → Ate (orUnderscore isDigit) (met isDigit) s at false end any → kind ≡ cond any hardwareIdent dollar → Parted (hardware (lent start more emoji)) s at kind end
+    pub hardware-digits : {end kind : ℕ} {any : Bool} → b ≡ false → Ate (orUnderscore isDigit) (met isDigit) s at false end any → kind ≡ cond any hardwareIdent dollar → Parted (hardware (moreIn more) (emojiIn emoji)) s at kind end
     unfolding hardware
     hardware-digits t q k =
-        let h : wideEmoji (lent start more emoji) (peek (left s at)) ≡ false = rw f at (sym o ∙ t) in
+        let h : wideEmoji (emojiIn emoji) (peek (left s at)) ≡ false = rw f at (sym o ∙ t) in
         let d = ate-digits isDigit q in
-        parted (hardware (lent start more emoji)) s at (cond (digits isDigit (left s at) .0) hardwareIdent dollar, digits isDigit (left s at) .1) (rw h) (rw (← d .what) k) (d .place)
+        parted (hardware (moreIn more) (emojiIn emoji)) s at (cond (digits isDigit (left s at) .0) hardwareIdent dollar, digits isDigit (left s at) .1) (rw h) (rw (← d .what) k) (d .place)
+
+-- ---- behind @
+module _ (start s : List ℕ) (at : ℕ) {x : ℕ} {b : Bool} (f : x ≡ peek (left s at)) (o : b ≡ startIn start x) where
+  pub annotated-line : {end kind : ℕ} → b ≡ true → Place s at end (skip notLf (left s at)) → kind ≡ annotation → Parted (annotated (startIn start)) s at kind end
+  unfolding annotated
+  annotated-line t p k =
+      let h : startIn start (peek (left s at)) ≡ true = rw f at (sym o ∙ t) in
+      parted (annotated (startIn start)) s at (annotation, skip notLf (left s at)) (rw h) k p
+
+  pub annotated-none : {kind : ℕ} → b ≡ false → at ≤ length s → kind ≡ atSign → Parted (annotated (startIn start)) s at kind at
+  unfolding annotated
+  annotated-none t l k =
+      let h : startIn start (peek (left s at)) ≡ false = rw f at (sym o ∙ t) in
+      parted (annotated (startIn start)) s at (atSign, left s at) (rw h) k (stay l)
 
 pub ruleset naming = (pound-pragma, pound-else, name-fake, name-plain, name-ascii, name-run, word-pragma, word-not-pragma, word-plain, annotated-line, annotated-none, hardware-fake, hardware-digits)

@@ -7,14 +7,14 @@ use mathlib.Core.Bool.{Bool, true, false, cond, not, _&&_, _||_, false≢true}
 use mathlib.Core.List.{List, [], _∷_, tail}
 use lib.Dec.{eqb, leb}
 use Rattle.lists.specs.All.{all}
-use Rattle.lists.specs.Ends.{Ends}
+use Rattle.lists.specs.Steps.{Ends}
 use Rattle.lists.proofs.Bools.{by-test, both, on-cond}
 use Rattle.lists.proofs.Cut.{cut-nil, cut-cons}
 use Rattle.lists.proofs.Ends.{ends-all, ends-cons, ends-then, ends-tail, ends-drop, ends-eat, ends-length}
 use Rattle.unicode.specs.Text.{skip, keep}
 use Rattle.letters.specs.Chars.{isWhitespace}
 use Rattle.lexer.specs.Kinds.{marks, markIn, isPlain, isLiteral, int, float, bitStr}
-use Rattle.lexer.specs.Cut.{Letters, Token, Quote, peek, notLf, isDigit, isHexDigit, isE, orUnderscore, met, opens, closes, block, slash, digits, exponent, exponentOf, point, fraction, based, number, isUnit, escapes, quoted, quoteKind, isBit, withoutLf, twice, pragmaWord, agree, pound, wideEmoji, goesOn, name, word, annotated, hardware, identifier, suffix, advance, piece, tokens}
+use Rattle.lexer.specs.Cut.{Letters, Piece, Quote, peek, notLf, isDigit, isHexDigit, isE, orUnderscore, met, opens, closes, block, slash, digits, exponent, exponentOf, point, fraction, based, number, isUnit, escapes, quoted, quoteKind, isBit, withoutLf, twice, pragmaWord, agree, pound, wideEmoji, goesOn, name, word, annotated, hardware, identifier, numberSuffix, advance, nextToken, tokens}
 
 ends-skip : (p : ℕ → Bool) (l : List ℕ) → Ends (skip p l) l
 unfolding skip
@@ -162,43 +162,43 @@ unfolding marks all
 all-marked = refl
 
 -- ---- a token: a plain kind and no suffix start, or a literal, whose suffix starts behind its first character
-pub data Shape (c : ℕ) (t : List ℕ) (a : Token) : Type 0 where
-  plain : isPlain (a .kind) ≡ true → a .suff ≡ c ∷ t → Ends (a .rest) t → Shape c t a
-  literal : isLiteral (a .kind) ≡ true → Ends (a .suff) t → Ends (a .rest) (a .suff) → Shape c t a
+pub data Shape (c : ℕ) (t : List ℕ) (a : Piece) : Type 0 where
+  plain : isPlain (a .kind) ≡ true → a .fromSuffix ≡ c ∷ t → Ends (a .rest) t → Shape c t a
+  literal : isLiteral (a .kind) ≡ true → Ends (a .fromSuffix) t → Ends (a .rest) (a .fromSuffix) → Shape c t a
 
-plainly : {c : ℕ} {t : List ℕ} {r : ℕ × List ℕ} → Plain t r → Shape c t (record { kind = r .0; suff = c ∷ t; rest = r .1 })
+plainly : {c : ℕ} {t : List ℕ} {r : ℕ × List ℕ} → Plain t r → Shape c t (record { kind = r .0; fromSuffix = c ∷ t; rest = r .1 })
 plainly p = plain (p .listed) refl (p .ends)
 
 module _ (u : Letters) where
-  pub name-part : (t : List ℕ) → Plain t (name u t)
+  pub name-part : (t : List ℕ) → Plain t (name (u .more) (u .emoji) t)
   unfolding name
   name-part t =
       let r = skip (u .more) t in
       part-of (ends-skip (u .more) t)
-      (on-cond (Plain r) (wideEmoji u (peek r)) (record { listed = refl; ends = ends-skip (goesOn u) r }) (record { listed = refl; ends = ends-all r }))
+      (on-cond (Plain r) (wideEmoji (u .emoji) (peek r)) (record { listed = refl; ends = ends-skip (goesOn (u .more) (u .emoji)) r }) (record { listed = refl; ends = ends-all r }))
 
-  word-part : (profile c : ℕ) (t : List ℕ) → Plain t (word u profile c t)
+  word-part : (profile c : ℕ) (t : List ℕ) → Plain t (word (u .more) (u .emoji) profile c t)
   unfolding word
   word-part profile c t =
       on-cond (Plain t) (eqb profile 1 && eqb (agree pragmaWord (c ∷ t)) 6) (record { listed = refl; ends = ends-skip notLf t }) (name-part t)
 
-  annotated-part : (t : List ℕ) → Plain t (annotated u t)
+  annotated-part : (t : List ℕ) → Plain t (annotated (u .start) t)
   unfolding annotated
   annotated-part t = on-cond (Plain t) (u .start (peek t)) (record { listed = refl; ends = ends-skip notLf t }) (record { listed = refl; ends = ends-all t })
 
-  hardware-part : (t : List ℕ) → Plain t (hardware u t)
+  hardware-part : (t : List ℕ) → Plain t (hardware (u .more) (u .emoji) t)
   unfolding hardware
   hardware-part t =
-      on-cond (Plain t) (wideEmoji u (peek t))
-      (part-of (ends-skip (u .more) t) (record { listed = refl; ends = ends-skip (goesOn u) (skip (u .more) t) }))
+      on-cond (Plain t) (wideEmoji (u .emoji) (peek t))
+      (part-of (ends-skip (u .more) t) (record { listed = refl; ends = ends-skip (goesOn (u .more) (u .emoji)) (skip (u .more) t) }))
       (record { listed = on-cond (λ (k : ℕ). isPlain k ≡ true) (digits isDigit t .0) refl refl; ends = ends-digits isDigit t })
 
-  ends-identifier : (t : List ℕ) → Ends (identifier u t) t
+  ends-identifier : (t : List ℕ) → Ends (identifier (u .start) (u .more) t) t
   unfolding identifier
   ends-identifier t = on-cond (λ (x : List ℕ). Ends x t) (u .start (peek t)) (ends-then (ends-tail t) (ends-skip (u .more) (tail t))) (ends-all t)
 
-  ends-suffix : (t : List ℕ) → Ends (suffix u t) t
-  unfolding suffix
+  ends-suffix : (t : List ℕ) → Ends (numberSuffix (u .start) (u .more) t) t
+  unfolding numberSuffix
   ends-suffix t = on-cond (λ (x : List ℕ). Ends x t) (isUnit (peek t) (peek (tail t))) (ends-all t) (ends-identifier t)
 
   pub advance-shape : (profile c : ℕ) (t : List ℕ) → Shape c t (advance u profile c t)
@@ -219,11 +219,11 @@ module _ (u : Letters) where
       (λ e. rw e
       (on-cond P (eqb c 0x22)
       (literal (quote-listed q) (ends-quoted t) (on-cond (λ (x : List ℕ). Ends x (q .rest)) (q .closed) (ends-identifier (q .rest)) (ends-all (q .rest))))
-      (on-cond P (wideEmoji u c) (plainly (record { listed = refl; ends = ends-skip (goesOn u) t })) (plainly (record { listed = refl; ends = ends-all t })))))
+      (on-cond P (wideEmoji (u .emoji) c) (plainly (record { listed = refl; ends = ends-skip (goesOn (u .more) (u .emoji)) t })) (plainly (record { listed = refl; ends = ends-all t })))))
       (λ e. rw e (plainly (record { listed = mark-has isPlain marks c all-marked e; ends = ends-all t }))))))))))
 
   -- ---- so each token takes at least its first character
-  ends-rest : (c : ℕ) (t : List ℕ) (a : Token) → Shape c t a → Ends (a .rest) t
+  ends-rest : (c : ℕ) (t : List ℕ) (a : Piece) → Shape c t a → Ends (a .rest) t
   ends-rest c t a (plain k m e) = e
   ends-rest c t a (literal k m e) = ends-then m e
 
@@ -232,8 +232,8 @@ module _ (u : Letters) where
 
   pub tokens-nil : (profile : ℕ) → tokens u profile [] ≡ []
   unfolding tokens
-  tokens-nil profile = cut-nil (piece u profile)
+  tokens-nil profile = cut-nil (nextToken u profile)
 
-  pub tokens-cons : (profile c : ℕ) (t : List ℕ) → tokens u profile (c ∷ t) ≡ piece u profile c t .0 ∷ tokens u profile (advance u profile c t .rest)
-  unfolding tokens piece
-  tokens-cons profile c t = cut-cons (piece u profile) (λ a l. ends-length (ends-advance profile a l)) c t
+  pub tokens-cons : (profile c : ℕ) (t : List ℕ) → tokens u profile (c ∷ t) ≡ nextToken u profile c t .0 ∷ tokens u profile (advance u profile c t .rest)
+  unfolding tokens nextToken
+  tokens-cons profile c t = cut-cons (nextToken u profile) (λ a l. ends-length (ends-advance profile a l)) c t

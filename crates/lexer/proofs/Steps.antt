@@ -8,7 +8,8 @@ use mathlib.Core.Path.{_≡_, refl, ap, sym, _∙_}
 use mathlib.Core.List.{List, tail}
 use lib.ListN.{length, drop}
 use Rattle.unicode.specs.Utf8.{first}
-use Rattle.unicode.specs.Text.{Decoded, Place, left}
+use Rattle.unicode.specs.Text.{Decoded, left}
+use Rattle.unicode.specs.Steps.{Place}
 use Rattle.unicode.proofs.Text.{decoded-point, decoded-end, left-end}
 use Rattle.lexer.specs.Cut.{peek}
 

@@ -15,18 +15,18 @@ use Rattle.lists.proofs.Bools.{by-test}
 use Rattle.lists.proofs.Cut.{cut-few}
 use Rattle.lists.proofs.Store.{stored-front}
 use Rattle.unicode.specs.Utf8.{next, chars}
-use Rattle.unicode.specs.Text.{bytes, left}
+use Rattle.unicode.specs.Text.{byteLength, left}
 use Rattle.unicode.proofs.Text.{point-at, left-end, between, bytes-chars}
 use Rattle.text.specs.Answer.{Answered, done, roomTooSmall, longest, checkCut}
 use Rattle.text.proofs.Checks.{cut-accepted}
-use Rattle.lexer.specs.Cut.{Letters, Tok, token, piece, tokens, flat, total}
+use Rattle.lexer.specs.Cut.{Letters, Token, advanceToken, nextToken, tokens, flat, total}
 use Rattle.lexer.specs.Unicode.{unicode}
-use Rattle.lexer.specs.Steps.{Cuts, Advanced, Filled, Stored}
-use Rattle.lexer.specs.Outcome.{tokensOf, answerOf, listed, Listed, runFrom, run, CutRun, front, TokenAt}
+use Rattle.lexer.specs.Steps.{Cuts, Advanced, Filled, Stored, runFrom}
+use Rattle.lexer.specs.Promises.{tokensOf, answerOf, listed, Listed, run, CutRun, front, TokenAt}
 use Rattle.lexer.proofs.Shapes.{tokens-nil, tokens-cons}
 
 -- three words for each token
-pub length-flat : (l : List Tok) → length (flat l) ≡ 3 * length l
+pub length-flat : (l : List Token) → length (flat l) ≡ 3 * length l
 unfolding flat
 length-flat [] = refl
 length-flat (t ∷ ts) = omega (arith, length-flat ts)
@@ -35,23 +35,23 @@ module _ (u : Letters) (profile : ℕ) where
   -- ---- no more records than bytes
   pub few-tokens : (s : List ℕ) → length (tokens u profile (chars s)) ≤ length s
   unfolding tokens chars
-  few-tokens s = omega (arith, cut-few (piece u profile) (chars s), cut-few next s)
+  few-tokens s = omega (arith, cut-few (nextToken u profile) (chars s), cut-few next s)
 
   -- the record of the token at the front
-  abbrev record-of : List ℕ → Tok
-  record-of l = record { kind = token u profile l .kind; len = bytes l - bytes (token u profile l .rest); suff = bytes l - bytes (token u profile l .suff) }
+  abbrev record-of : List ℕ → Token
+  record-of l = record { kind = advanceToken u profile l .kind; len = byteLength l - byteLength (advanceToken u profile l .rest); suffix = byteLength l - byteLength (advanceToken u profile l .fromSuffix) }
 
-  tokens-step : (c : ℕ) (t : List ℕ) → tokens u profile (c ∷ t) ≡ record-of (c ∷ t) ∷ tokens u profile (token u profile (c ∷ t) .rest)
-  unfolding token piece
+  tokens-step : (c : ℕ) (t : List ℕ) → tokens u profile (c ∷ t) ≡ record-of (c ∷ t) ∷ tokens u profile (advanceToken u profile (c ∷ t) .rest)
+  unfolding advanceToken nextToken
   tokens-step c t = tokens-cons u profile c t
 
   -- the first token at a place before the end
-  pub tokens-at : {s : List ℕ} {at kind suff end : ℕ} → at < length s → Cuts u profile s at kind suff end →
-      tokens u profile (left s at) ≡ record { kind = kind; len = end - at; suff = suff - at } ∷ tokens u profile (left s end)
-  tokens-at {s} {at} {kind} {suff} {end} h a =
+  pub tokens-at : {s : List ℕ} {at kind suffixAt end : ℕ} → at < length s → Cuts u profile s at kind suffixAt end →
+      tokens u profile (left s at) ≡ record { kind = kind; len = end - at; suffix = suffixAt - at } ∷ tokens u profile (left s end)
+  tokens-at {s} {at} {kind} {suffixAt} {end} h a =
       let c = point-at s at h in
-      let q : tokens u profile (left s at) ≡ record-of (left s at) ∷ tokens u profile (token u profile (left s at) .rest) = (rw (c .view) (tokens-step _ _)) in
-      q ∙ rw (← a .what, between (omega arith) (a .place), between (omega arith) (a .start), ← a .place .there)
+      let q : tokens u profile (left s at) ≡ record-of (left s at) ∷ tokens u profile (advanceToken u profile (left s at) .rest) = (rw (c .view) (tokens-step _ _)) in
+      q ∙ rw (← a .kind-is, between (omega arith) (a .end-place), between (omega arith) (a .suffix-place), ← a .end-place .there)
 
   -- there is one, of at least one byte
   pub tokens-some : (s : List ℕ) (at : ℕ) → at < length s → 1 ≤ length (tokens u profile (left s at))
@@ -76,13 +76,13 @@ module _ {u : Letters} {profile : ℕ} {s list₀ list : List ℕ} {from room at
   pub fill-three : {k : ℕ} → n < room → k ≡ 3 * n → k + 3 ≤ length list
   fill-three h e = omega (arith, w .full, w .long)
 
-  module _ {kind suff end n′ k : ℕ} {list′ : List ℕ} (l : n < room) (h : at < length s) (a : Advanced u profile s at kind suff end) where
-    pub fill-on : k ≡ 3 * n → list′ ≡ set (set (set list k kind) (k + 1) (end - at)) (k + 2) (suff - at) → n′ ≡ n + 1 → Filling u profile s from list₀ room end n′ list′
+  module _ {kind suffixAt end n′ k : ℕ} {list′ : List ℕ} (l : n < room) (h : at < length s) (a : Advanced u profile s at kind suffixAt end) where
+    pub fill-on : k ≡ 3 * n → list′ ≡ set (set (set list k kind) (k + 1) (end - at)) (k + 2) (suffixAt - at) → n′ ≡ n + 1 → Filling u profile s from list₀ room end n′ list′
     unfolding flat
     fill-on v e f =
         let cuts = a .before-end h in
         let ts = tokens u profile (left s end) in
-        let t : Tok = record { kind = kind; len = end - at; suff = suff - at } in
+        let t : Token = record { kind = kind; len = end - at; suffix = suffixAt - at } in
         let view : tokens u profile (left s at) ≡ t ∷ ts = tokens-at u profile h cuts in
         let less : room - n ≡ suc (room - n′) = omega arith in
         let front : runFrom u profile s at (room - n) ≡ t ∷ runFrom u profile s end (room - n′) = rw (less, view) in
@@ -97,7 +97,7 @@ module _ {u : Letters} {profile : ℕ} {s list₀ list : List ℕ} {from room at
           count = omega (arith, w .count, ap length front);
           place = omega (arith, w .place, ap total front, cuts .some);
           rest = sym far ∙ w .rest;
-          same = rw (m, e, add-one, add-two) (ap (λ (l : List Tok). sets list k (flat l)) (sym front) ∙ g);
+          same = rw (m, e, add-one, add-two) (ap (λ (l : List Token). sets list k (flat l)) (sym front) ∙ g);
         }
 
   -- where nothing is left to cut, all is done
@@ -109,7 +109,7 @@ module _ {u : Letters} {profile : ℕ} {s list₀ list : List ℕ} {from room at
         many = rw (← r) (omega (arith, w .count, ap length z));
         reached = rw (← r) (omega (arith, w .place, ap total z));
         rest = rw (← r) (sym k ∙ w .rest);
-        words = rw (← r) (ap (λ (l : List Tok). sets list (3 * n) (flat l)) (sym z) ∙ w .same);
+        words = rw (← r) (ap (λ (l : List Token). sets list (3 * n) (flat l)) (sym z) ∙ w .same);
       }
 
   pub fill-full : {count : ℕ} → room ≤ n → count ≡ n → Filled u profile s from list₀ at count list
@@ -177,7 +177,7 @@ module _ {u : Letters} {profile : ℕ} {s list list′ : List ℕ} {number also 
       let n = length-flat T in
       record {
         answer = rw (le-ltb (length list / 3) (length T) l) (record { number-is = k; also-is = a ∙ w .many ∙ ap length e });
-        words = rw k (stored-front (flat T) list (w .words ∙ ap (λ (l : List Tok). sets list 0 (flat l)) e) (omega (arith, n)));
+        words = rw k (stored-front (flat T) list (w .words ∙ ap (λ (l : List Token). sets list 0 (flat l)) e) (omega (arith, n)));
       }
 
   pub stored-all : {at n : ℕ} → Filled u profile s 0 list at n list′ → length s ≤ length list / 3 → number ≡ done → also ≡ n → Stored u profile s list number also list′
@@ -211,14 +211,14 @@ cut-short s profile c z = cut-accepted s profile (sym (c .number-is) ∙ z) .1 .
 
 -- ---- a run of one token
 -- the words of at most one token, before three noughts
-one-words : (l : List Tok) → length l ≤ 1 → {list : List ℕ} → list ≡ flat l ++ drop (length (flat l)) (0 ∷ 0 ∷ 0 ∷ []) → (getD list 0 0 ≡ front l .kind) × (getD list 2 0 ≡ front l .suff) × (total l ≡ front l .len)
+one-words : (l : List Token) → length l ≤ 1 → {list : List ℕ} → list ≡ flat l ++ drop (length (flat l)) (0 ∷ 0 ∷ 0 ∷ []) → (getD list 0 0 ≡ front l .kind) × (getD list 2 0 ≡ front l .suffix) × (total l ≡ front l .len)
 unfolding flat front
 one-words [] h e = (ap (λ (l : List ℕ). getD l 0 0) e, ap (λ (l : List ℕ). getD l 2 0) e, refl)
 one-words (t ∷ []) h e = (ap (λ (l : List ℕ). getD l 0 0) e, ap (λ (l : List ℕ). getD l 2 0) e, omega arith)
 one-words (t ∷ t′ ∷ ts) h e = absurd (omega arith)
 
 module _ (u : Letters) (profile : ℕ) (s : List ℕ) (at : ℕ) where
-  abbrev one : List Tok
+  abbrev one : List Token
   one = run u profile s at 1
 
   one-few : length one ≤ 1
@@ -226,14 +226,14 @@ module _ (u : Letters) (profile : ℕ) (s : List ℕ) (at : ℕ) where
   one-few = by-test (ltb longest (length s)) (λ t. rw t (omega arith)) (λ t. rw t (omega (arith, length-take 1 (tokens u profile (left s at)))))
 
   -- a token stands within its text
-  pub one-within : (at + front one .suff ≤ max at (length s)) × (at + front one .len ≤ max at (length s))
+  pub one-within : (at + front one .suffix ≤ max at (length s)) × (at + front one .len ≤ max at (length s))
   unfolding run front
   one-within =
       by-test (ltb longest (length s))
       (λ t. rw t (omega arith, omega arith))
       (λ t.
       elim (decLt at (length s)) [
-        | yes h ↦ let c = point-at s at h in rw (t, c .view, tokens-step u profile) (omega (arith, ap bytes (c .view), bytes-chars (drop at s), length-drop at s), omega (arith, ap bytes (c .view), bytes-chars (drop at s), length-drop at s))
+        | yes h ↦ let c = point-at s at h in rw (t, c .view, tokens-step u profile) (omega (arith, ap byteLength (c .view), bytes-chars (drop at s), length-drop at s), omega (arith, ap byteLength (c .view), bytes-chars (drop at s), length-drop at s))
         | no n ↦ rw (t, left-end s at (omega arith), tokens-nil u profile) (omega arith, omega arith)
       ])
 
@@ -241,15 +241,15 @@ module _ {u : Letters} {profile : ℕ} {s list′ : List ℕ} {at end count : �
   pub one-suffix : at + getD list′ 2 0 ≤ max at (length s)
   one-suffix = omega (arith, one-within u profile s at .0, one-words (one u profile s at) (one-few u profile s at) (r .words) .1)
 
-  pub one-token : {kind suff end′ : ℕ} → kind ≡ getD list′ 0 0 → suff ≡ at + getD list′ 2 0 → end′ ≡ end → TokenAt u profile s at kind suff end′
+  pub one-token : {kind suffixAt end′ : ℕ} → kind ≡ getD list′ 0 0 → suffixAt ≡ at + getD list′ 2 0 → end′ ≡ end → TokenAt u profile s at kind suffixAt end′
   one-token k m e =
       let w = one-words (one u profile s at) (one-few u profile s at) (r .words) in
-      record { what = k ∙ w .0; start = m ∙ ap (λ (n : ℕ). at + n) (w .1); place = e ∙ r .reached ∙ ap (λ (n : ℕ). at + n) (w .2) }
+      record { kind-is = k ∙ w .0; suffix-is = m ∙ ap (λ (n : ℕ). at + n) (w .1); end-is = e ∙ r .reached ∙ ap (λ (n : ℕ). at + n) (w .2) }
 
 -- a place of the token is at or behind its start, and within the text
-module _ {u : Letters} {profile : ℕ} {s : List ℕ} {at kind suff end : ℕ} (a : TokenAt u profile s at kind suff end) where
-  pub one-start : (at ≤ suff) × (suff ≤ max at (length s))
-  one-start = (omega (arith, a .start), omega (arith, a .start, one-within u profile s at .0))
+module _ {u : Letters} {profile : ℕ} {s : List ℕ} {at kind suffixAt end : ℕ} (a : TokenAt u profile s at kind suffixAt end) where
+  pub one-start : (at ≤ suffixAt) × (suffixAt ≤ max at (length s))
+  one-start = (omega (arith, a .suffix-is), omega (arith, a .suffix-is, one-within u profile s at .0))
 
   pub one-end : (at ≤ end) × (end ≤ max at (length s))
-  one-end = (omega (arith, a .place), omega (arith, a .place, one-within u profile s at .1))
+  one-end = (omega (arith, a .end-is), omega (arith, a .end-is, one-within u profile s at .1))

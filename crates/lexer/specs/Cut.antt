@@ -4,12 +4,12 @@ use mathlib.Core.Bool.{Bool, true, false, not, cond, _&&_, _||_}
 use mathlib.Core.List.{List, [], _∷_, tail}
 use Prim.Native.Nat.{ℕ, _+_, suc, _-_}
 use lib.Dec.{eqb, leb}
-use lib.ListN.{drop}
+use lib.ListN.{length, drop}
 use Rattle.lists.specs.All.{all}
 use Rattle.lists.specs.Cut.{cut}
 use Rattle.lists.specs.Eat.{eat}
 use Rattle.unicode.specs.Ranges.{_to_, inRange}
-use Rattle.unicode.specs.Text.{bytes, skip}
+use Rattle.unicode.specs.Text.{byteLength, skip}
 use Rattle.letters.specs.Chars.{isWhitespace}
 use Rattle.lexer.specs.Kinds.{eof, lineComment, blockComment, unclosedComment, whitespaceKind, ident, hardwareIdent, invalidIdent, pragma, annotation, atSign, dollar, slashMark, unknown, marks, markIn, int, float, str, bitStr}
 
@@ -45,18 +45,14 @@ opens c x = eqb c 0x2F && eqb x 0x2A
 abbrev pub closes : ℕ → ℕ → Bool
 closes c x = eqb c 0x2A && eqb x 0x2F
 
--- what two characters do at depth d: they open a comment, they close one (and where that brings the depth to nought it is done), or the
--- scan goes on behind the first of them
-abbrev turn : Bool → Bool → ℕ → List ℕ → (ℕ → Bool × List ℕ) → (Unit {0} → Bool × List ℕ) → Bool × List ℕ
-turn true b d t past next = past (suc d)
-turn false true d t past next = cond (leb d 1) (true, t) (past (d - 1))
-turn false false d t past next = next tt
-
 -- inside a block comment, at depth d: whether it is closed, and what is left
 unfoldable pub block : ℕ → List ℕ → Bool × List ℕ
 block d [] = (false, [])
 block d (c ∷ []) = (false, [])
-block d (c ∷ x ∷ t) = turn (opens c x) (closes c x) d t (λ e. block e t) (λ u. block d (x ∷ t))
+block d (c ∷ x ∷ t) =
+    cond (opens c x) (block (suc d) t)
+    (cond (closes c x) (cond (leb d 1) (true, t) (block (d - 1) t))
+    (block d (x ∷ t)))
 
 -- behind a slash: the kind, and what is left
 unfoldable pub slash : List ℕ → ℕ × List ℕ
@@ -80,7 +76,7 @@ agree (w ∷ ws) (c ∷ t) = cond (eqb c w) (suc (agree ws t)) 0
 unfoldable pub pound : List ℕ → ℕ × List ℕ
 pound t =
     let n = agree pragmaWord t in
-    cond (eqb n 6) (pragma, skip notLf t) (invalidIdent, drop n t)
+    cond (eqb n (length pragmaWord)) (pragma, skip notLf t) (invalidIdent, drop n t)
 
 -- ---- numbers
 -- digits and underscores are eaten: whether there was a digit, and what is left
@@ -153,15 +149,13 @@ before c q = record { closed = q .closed; body = c ∷ q .body; rest = q .rest }
 abbrev pub escapes : ℕ → ℕ → Bool
 escapes c x = eqb c 0x5C && (eqb x 0x5C || eqb x 0x22)
 
-abbrev step : Bool → Bool → ℕ → ℕ → List ℕ → (Unit {0} → Quote) → (Unit {0} → Quote) → Quote
-step true b c x t past next = record { closed = true; body = []; rest = x ∷ t }
-step false true c x t past next = before c (before x (past tt))
-step false false c x t past next = before c (next tt)
-
 unfoldable pub quoted : List ℕ → Quote
 quoted [] = record { closed = false; body = []; rest = [] }
 quoted (c ∷ []) = record { closed = eqb c 0x22; body = cond (eqb c 0x22) [] (c ∷ []); rest = [] }
-quoted (c ∷ x ∷ t) = step (eqb c 0x22) (escapes c x) c x t (λ u. quoted t) (λ u. quoted (x ∷ t))
+quoted (c ∷ x ∷ t) =
+    cond (eqb c 0x22) (record { closed = true; body = []; rest = x ∷ t })
+    (cond (escapes c x) (before c (before x (quoted t)))
+    (before c (quoted (x ∷ t))))
 
 -- a character of a bit string
 abbrev pub isBit : ℕ → Bool
@@ -188,60 +182,63 @@ quoteKind q =
 
 -- ---- a token: its kind, what is left where its suffix starts (of a literal with none, behind it; of all else, from its own start on), and what
 -- is left behind it
-pub record Token : Type 0 where
+pub record Piece : Type 0 where
   pub kind : ℕ
-  pub suff : List ℕ
+  pub fromSuffix : List ℕ
   pub rest : List ℕ
 
-plain : ℕ → List ℕ → ℕ × List ℕ → Token
-plain c t r = record { kind = r .0; suff = c ∷ t; rest = r .1 }
+plain : ℕ → List ℕ → ℕ × List ℕ → Piece
+plain c t r = record { kind = r .0; fromSuffix = c ∷ t; rest = r .1 }
 
-literal : ℕ → List ℕ → List ℕ → Token
-literal k m r = record { kind = k; suff = m; rest = r }
+literal : ℕ → List ℕ → List ℕ → Piece
+literal k m r = record { kind = k; fromSuffix = m; rest = r }
 
 -- a token record: kind, length, suffix start
-pub record Tok : Type 0 where
+pub record Token : Type 0 where
   pub kind : ℕ
   pub len : ℕ
-  pub suff : ℕ
+  pub suffix : ℕ
 
-module _ (u : Letters) where
-  abbrev pub wideEmoji : ℕ → Bool
-  wideEmoji c = leb 0x80 c && u .emoji c
+-- ---- names, over the tests that each asks
+abbrev pub wideEmoji : (ℕ → Bool) → ℕ → Bool
+wideEmoji emoji c = leb 0x80 c && emoji c
 
+module _ (more emoji : ℕ → Bool) where
   -- what goes on with an identifier that holds an emoji
   abbrev pub goesOn : ℕ → Bool
-  goesOn c = u .more c || (wideEmoji c || eqb c 0x200D)
+  goesOn c = more c || (wideEmoji emoji c || eqb c 0x200D)
 
   -- behind the first character of an identifier
   unfoldable pub name : List ℕ → ℕ × List ℕ
   name t =
-      let r = skip (u .more) t in
-      cond (wideEmoji (peek r)) (invalidIdent, skip goesOn r) (ident, r)
+      let r = skip more t in
+      cond (wideEmoji emoji (peek r)) (invalidIdent, skip goesOn r) (ident, r)
 
   -- behind c, which begins an identifier; under profile 1 the bytes pragma make a Pragma of the line
   unfoldable pub word : ℕ → ℕ → List ℕ → ℕ × List ℕ
-  word profile c t = cond (eqb profile 1 && eqb (agree pragmaWord (c ∷ t)) 6) (pragma, skip notLf t) (name t)
-
-  -- an identifier eaten as a suffix; a unit is no suffix of a number
-  unfoldable pub identifier : List ℕ → List ℕ
-  identifier t = cond (u .start (peek t)) (skip (u .more) (tail t)) t
-
-  unfoldable pub suffix : List ℕ → List ℕ
-  suffix t = cond (isUnit (peek t) (peek (tail t))) t (identifier t)
-
-  -- behind @
-  unfoldable pub annotated : List ℕ → ℕ × List ℕ
-  annotated t = cond (u .start (peek t)) (annotation, skip notLf t) (atSign, t)
+  word profile c t = cond (eqb profile 1 && eqb (agree pragmaWord (c ∷ t)) (length pragmaWord)) (pragma, skip notLf t) (name t)
 
   -- behind $
   unfoldable pub hardware : List ℕ → ℕ × List ℕ
   hardware t =
-      cond (wideEmoji (peek t)) (invalidIdent, skip goesOn (skip (u .more) t))
+      cond (wideEmoji emoji (peek t)) (invalidIdent, skip goesOn (skip more t))
       (let d = digits isDigit t in (cond (d .0) hardwareIdent dollar, d .1))
 
+-- behind @
+unfoldable pub annotated : (ℕ → Bool) → List ℕ → ℕ × List ℕ
+annotated start t = cond (start (peek t)) (annotation, skip notLf t) (atSign, t)
+
+module _ (start more : ℕ → Bool) where
+  -- an identifier eaten as a suffix; a unit is no suffix of a number
+  unfoldable pub identifier : List ℕ → List ℕ
+  identifier t = cond (start (peek t)) (skip more (tail t)) t
+
+  unfoldable pub numberSuffix : List ℕ → List ℕ
+  numberSuffix t = cond (isUnit (peek t) (peek (tail t))) t (identifier t)
+
+module _ (u : Letters) where
   -- ---- the token that c ∷ t begins with, by its first character, in the order of the tests
-  unfoldable pub advance : ℕ → ℕ → List ℕ → Token
+  unfoldable pub advance : ℕ → ℕ → List ℕ → Piece
   unfolding plain literal
   advance profile c t =
       let n = number c t in
@@ -249,36 +246,36 @@ module _ (u : Letters) where
       let m = markIn marks c in
       cond (eqb c 0x2F) (plain c t (slash t))
       (cond (isWhitespace c) (plain c t (whitespaceKind, skip isWhitespace t))
-      (cond (u .start c) (plain c t (word profile c t))
-      (cond (isDigit c) (literal (n .0) (n .1) (suffix (n .1)))
+      (cond (u .start c) (plain c t (word (u .more) (u .emoji) profile c t))
+      (cond (isDigit c) (literal (n .0) (n .1) (numberSuffix (u .start) (u .more) (n .1)))
       (cond (eqb c 0x23) (plain c t (pound t))
-      (cond (eqb c 0x40) (plain c t (annotated t))
-      (cond (eqb c 0x24) (plain c t (hardware t))
+      (cond (eqb c 0x40) (plain c t (annotated (u .start) t))
+      (cond (eqb c 0x24) (plain c t (hardware (u .more) (u .emoji) t))
       (cond (not (eqb m 0)) (plain c t (m, t))
-      (cond (eqb c 0x22) (literal (quoteKind q) (q .rest) (cond (q .closed) (identifier (q .rest)) (q .rest)))
-      (cond (wideEmoji c) (plain c t (invalidIdent, skip goesOn t))
+      (cond (eqb c 0x22) (literal (quoteKind q) (q .rest) (cond (q .closed) (identifier (u .start) (u .more) (q .rest)) (q .rest)))
+      (cond (wideEmoji (u .emoji) c) (plain c t (invalidIdent, skip (goesOn (u .more) (u .emoji)) t))
       (plain c t (unknown, t)))))))))))
 
   -- of no text there is no token
-  unfoldable pub token : ℕ → List ℕ → Token
-  token profile [] = record { kind = eof; suff = []; rest = [] }
-  token profile (c ∷ t) = advance profile c t
+  unfoldable pub advanceToken : ℕ → List ℕ → Piece
+  advanceToken profile [] = record { kind = eof; fromSuffix = []; rest = [] }
+  advanceToken profile (c ∷ t) = advance profile c t
 
   -- ---- the whole text: for each token its kind, its length in bytes, and the bytes before its suffix
-  unfoldable pub piece : ℕ → ℕ → List ℕ → Tok × List ℕ
-  piece profile c t =
+  unfoldable pub nextToken : ℕ → ℕ → List ℕ → Token × List ℕ
+  nextToken profile c t =
       let a = advance profile c t in
-      (record { kind = a .kind; len = bytes (c ∷ t) - bytes (a .rest); suff = bytes (c ∷ t) - bytes (a .suff) }, a .rest)
+      (record { kind = a .kind; len = byteLength (c ∷ t) - byteLength (a .rest); suffix = byteLength (c ∷ t) - byteLength (a .fromSuffix) }, a .rest)
 
-  unfoldable pub tokens : ℕ → List ℕ → List Tok
-  tokens profile = cut (piece profile)
+  unfoldable pub tokens : ℕ → List ℕ → List Token
+  tokens profile = cut (nextToken profile)
 
 -- three words for each token
-unfoldable pub flat : List Tok → List ℕ
+unfoldable pub flat : List Token → List ℕ
 flat [] = []
-flat (t ∷ ts) = t .kind ∷ t .len ∷ t .suff ∷ flat ts
+flat (t ∷ ts) = t .kind ∷ t .len ∷ t .suffix ∷ flat ts
 
 -- the lengths of tokens, added up
-abbrev pub total : List Tok → ℕ
+abbrev pub total : List Token → ℕ
 total [] = 0
 total (t ∷ ts) = t .len + total ts

@@ -1,5 +1,5 @@
 pub mod Kinds
 pub mod Cut
 pub mod Unicode
-pub mod Outcome
+pub mod Promises
 pub mod Steps

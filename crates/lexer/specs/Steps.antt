@@ -5,15 +5,16 @@ use mathlib.Core.Path.{_≡_}
 use mathlib.Core.Bool.{Bool, false, cond, _&&_, _||_}
 use mathlib.Core.List.{List, _∷_}
 use lib.Dec.{eqb}
-use lib.ListN.{length, drop, getD}
+use lib.ListN.{length, take, drop, getD}
 use lib.Seq.{sets}
 use Rattle.lists.specs.Over.{over}
 use Rattle.text.specs.Answer.{Answered, done, checkRoom}
-use Rattle.unicode.specs.Text.{Place, left, skip}
+use Rattle.unicode.specs.Steps.{Place}
+use Rattle.unicode.specs.Text.{left, skip}
 use Rattle.letters.specs.Chars.{isWhitespace}
 use Rattle.lexer.specs.Kinds.{eof}
-use Rattle.lexer.specs.Cut.{Letters, agree, isBit, isDigit, quoted, quoteKind, token, tokens, flat, total}
-use Rattle.lexer.specs.Outcome.{tokensBy, runFrom}
+use Rattle.lexer.specs.Cut.{Letters, Token, agree, isBit, isDigit, quoted, quoteKind, advanceToken, tokens, flat, total}
+use Rattle.lexer.specs.Promises.{tokensBy}
 
 -- a kind or a flag, and a place, by a definition that gives it and what is left
 pub record Parted {A : Type 0} (f : List ℕ → A × List ℕ) (s : List ℕ) (at : ℕ) (x : A) (end : ℕ) : Type 0 where
@@ -72,18 +73,22 @@ pub record Single (u : Letters) (c : ℕ) : Type 0 where
   pub no-dollar : (c ≡ 0x24 → ⊥)
 
 -- ---- a token at a place before the end: its kind, and the places where its suffix starts and where it ends
-pub record Cuts (u : Letters) (profile : ℕ) (s : List ℕ) (at kind suff end : ℕ) : Type 0 where
-  pub what : kind ≡ token u profile (left s at) .kind
-  pub start : Place s at suff (token u profile (left s at) .suff)
-  pub place : Place s at end (token u profile (left s at) .rest)
+pub record Cuts (u : Letters) (profile : ℕ) (s : List ℕ) (at kind suffixAt end : ℕ) : Type 0 where
+  pub kind-is : kind ≡ advanceToken u profile (left s at) .kind
+  pub suffix-place : Place s at suffixAt (advanceToken u profile (left s at) .fromSuffix)
+  pub end-place : Place s at end (advanceToken u profile (left s at) .rest)
   pub some : at < end
 
 -- what `advance_token` answers: at or past the end there is no token
-pub record Advanced (u : Letters) (profile : ℕ) (s : List ℕ) (at kind suff end : ℕ) : Type 0 where
-  pub before-end : (at < length s → Cuts u profile s at kind suff end)
-  pub at-end : (length s ≤ at → (kind ≡ eof) × (suff ≡ at) × (end ≡ at))
+pub record Advanced (u : Letters) (profile : ℕ) (s : List ℕ) (at kind suffixAt end : ℕ) : Type 0 where
+  pub before-end : (at < length s → Cuts u profile s at kind suffixAt end)
+  pub at-end : (length s ≤ at → (kind ≡ eof) × (suffixAt ≡ at) × (end ≡ at))
 
--- ---- a run of tokens: how many they are, where they end and what is left there, and the list with their words
+-- ---- a run of tokens, of a text that is not too long
+abbrev pub runFrom : Letters → ℕ → List ℕ → ℕ → ℕ → List Token
+runFrom u profile s from room = take room (tokens u profile (left s from))
+
+-- how many they are, where they end and what is left there, and the list with their words
 pub record Filled (u : Letters) (profile : ℕ) (s : List ℕ) (from : ℕ) (list : List ℕ) (at count : ℕ) (list′ : List ℕ) : Type 0 where
   pub many : count ≡ length (runFrom u profile s from (length list / 3))
   pub reached : at ≡ from + total (runFrom u profile s from (length list / 3))

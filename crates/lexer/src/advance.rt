@@ -38,29 +38,29 @@ fn mark_of(c: u32) -> u32
     ensures { λ r. ⌜ r ≡ markIn marks c ⌝ }
 {
     match c {
-        0x3B => 10,
-        0x2C => 11,
-        0x2E => 12,
-        0x28 => 13,
-        0x29 => 14,
-        0x7B => 15,
-        0x7D => 16,
-        0x5B => 17,
-        0x5D => 18,
-        0x7E => 21,
-        0x3F => 22,
-        0x3A => 23,
-        0x3D => 25,
-        0x21 => 26,
-        0x3C => 27,
-        0x3E => 28,
-        0x2D => 29,
-        0x26 => 30,
-        0x7C => 31,
-        0x2B => 32,
-        0x2A => 33,
-        0x5E => 35,
-        0x25 => 36,
+        0x3B => kinds::SEMI,
+        0x2C => kinds::COMMA,
+        0x2E => kinds::DOT,
+        0x28 => kinds::OPEN_PAREN,
+        0x29 => kinds::CLOSE_PAREN,
+        0x7B => kinds::OPEN_BRACE,
+        0x7D => kinds::CLOSE_BRACE,
+        0x5B => kinds::OPEN_BRACKET,
+        0x5D => kinds::CLOSE_BRACKET,
+        0x7E => kinds::TILDE,
+        0x3F => kinds::QUESTION,
+        0x3A => kinds::COLON,
+        0x3D => kinds::EQ,
+        0x21 => kinds::BANG,
+        0x3C => kinds::LT,
+        0x3E => kinds::GT,
+        0x2D => kinds::MINUS,
+        0x26 => kinds::AND,
+        0x7C => kinds::OR,
+        0x2B => kinds::PLUS,
+        0x2A => kinds::STAR,
+        0x5E => kinds::CARET,
+        0x25 => kinds::PERCENT,
         _ => 0,
     }
 }
@@ -80,18 +80,19 @@ fn string(
     ensures { λ r. ⌜ Cuts (lent (now (start .entry)) (now (more .entry)) (now (emoji .entry))) profile (now (text .entry)) at (r .kind) (r .suffix) (r .end) ⌝ }
 {
     let q = double_quoted_string(text, next);
+    let cursor = q.cursor;
     if q.closed {
-        let end = eat_literal_suffix(text, Cursor { at: q.at }, start, more, emoji);
+        let end = eat_literal_suffix(text, cursor, start, more);
         return Piece {
             kind: q.kind,
-            suffix: q.at,
+            suffix: cursor.at,
             end: end.at,
         };
     }
     Piece {
         kind: q.kind,
-        suffix: q.at,
-        end: q.at,
+        suffix: cursor.at,
+        end: cursor.at,
     }
 }
 
@@ -110,18 +111,18 @@ fn numeral(
     ensures { λ r. ⌜ Cuts (lent (now (start .entry)) (now (more .entry)) (now (emoji .entry))) profile (now (text .entry)) at (r .kind) (r .suffix) (r .end) ⌝ }
 {
     let n = number(text, next, c);
-    let behind = Cursor { at: n.at };
-    if has_timing_or_imaginary_suffix(text, behind) {
+    let cursor = n.cursor;
+    if has_timing_or_imaginary_suffix(text, cursor) {
         return Piece {
             kind: n.kind,
-            suffix: n.at,
-            end: n.at,
+            suffix: cursor.at,
+            end: cursor.at,
         };
     }
-    let end = eat_literal_suffix(text, behind, start, more, emoji);
+    let end = eat_literal_suffix(text, cursor, start, more);
     Piece {
         kind: n.kind,
-        suffix: n.at,
+        suffix: cursor.at,
         end: end.at,
     }
 }
@@ -151,8 +152,8 @@ fn single(
     if c == 0x22 {
         return string(text, at, c, next, profile, start, more, emoji);
     }
-    if is_wide_emoji(start, more, emoji, c) {
-        let fake = next.eat_fake(text, start, more, emoji);
+    if is_wide_emoji(emoji, c) {
+        let fake = next.eat_fake(text, more, emoji);
         return Piece {
             kind: kinds::INVALID_IDENT,
             suffix: at,
@@ -182,19 +183,19 @@ fn sigil(
 {
     match c {
         0x40 => {
-            let p = annotation(text, next, start, more, emoji);
+            let p = annotation(text, next, start);
             return Piece {
                 kind: p.kind,
                 suffix: at,
-                end: p.at,
+                end: p.cursor.at,
             };
         }
         0x24 => {
-            let p = hardware_ident(text, next, start, more, emoji);
+            let p = hardware_ident(text, next, more, emoji);
             return Piece {
                 kind: p.kind,
                 suffix: at,
-                end: p.at,
+                end: p.cursor.at,
             };
         }
         _ => {
@@ -225,7 +226,7 @@ fn other(
         return Piece {
             kind: p.kind,
             suffix: at,
-            end: p.at,
+            end: p.cursor.at,
         };
     }
     sigil(text, at, c, next, profile, start, more, emoji)
@@ -247,11 +248,11 @@ fn named(
 {
     if is_id_start_in(start, c) {
         let own = Cursor { at };
-        let p = ident_or_unknown_prefix(text, own, c, next, profile, start, more, emoji);
+        let p = ident_or_unknown_prefix(text, own, c, next, profile, more, emoji);
         return Piece {
             kind: p.kind,
             suffix: at,
-            end: p.at,
+            end: p.cursor.at,
         };
     }
     other(text, at, c, next, profile, start, more, emoji)
@@ -276,7 +277,7 @@ fn advance(
         return Piece {
             kind: p.kind,
             suffix: at,
-            end: p.at,
+            end: p.cursor.at,
         };
     }
     if is_whitespace(d.code) {

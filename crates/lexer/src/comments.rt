@@ -8,16 +8,16 @@ use crate::cursor::Cursor;
 use crate::cursor::byte;
 use crate::kinds;
 
-// A kind, and the place behind the token.
+// A kind, and the cursor behind the token.
 pub struct Part {
     pub kind: u32,
-    pub at: usize,
+    pub cursor: Cursor,
 }
 
-// Whether a block comment is closed, and the place behind it.
+// Whether a block comment is closed, and the cursor behind it.
 pub struct Block {
     pub closed: bool,
-    pub at: usize,
+    pub cursor: Cursor,
 }
 
 fn is_open(text: &[u8], at: usize) -> bool
@@ -43,13 +43,16 @@ fn is_close(text: &[u8], at: usize) -> bool
 // Behind the slash and the asterisk that open a block comment, byte by byte: only ASCII opens or closes. Block comments nest.
 fn block_comment(text: &[u8], from: Cursor) -> Block
     requires { ⌜ from .at ≤ length (now text) ⌝ }
-    ensures { λ r. ⌜ Parted (block 1) (now (text .entry)) (from .at) (r .closed) (r .at) ⌝ }
+    ensures { λ r. ⌜ Parted (block 1) (now (text .entry)) (from .at) (r .closed) (r .cursor .at) ⌝ }
 {
     let mut at = from.at;
     let mut depth: usize = 1;
     loop {
         if text.len() <= at {
-            break Block { closed: false, at };
+            break Block {
+                closed: false,
+                cursor: Cursor { at },
+            };
         }
         if is_open(text, at) {
             depth = depth + 1;
@@ -59,7 +62,10 @@ fn block_comment(text: &[u8], from: Cursor) -> Block
                 depth = depth - 1;
                 at = at + 2;
                 if depth == 0 {
-                    break Block { closed: true, at };
+                    break Block {
+                        closed: true,
+                        cursor: Cursor { at },
+                    };
                 }
             } else {
                 at = at + 1;
@@ -71,31 +77,32 @@ fn block_comment(text: &[u8], from: Cursor) -> Block
 // Behind a slash: a line comment, a block comment, or the slash alone.
 pub fn slash(text: &[u8], from: Cursor) -> Part
     requires { ⌜ from .at ≤ length (now text) ⌝ }
-    ensures { λ r. ⌜ Parted slash (now (text .entry)) (from .at) (r .kind) (r .at) ⌝ }
+    ensures { λ r. ⌜ Parted slash (now (text .entry)) (from .at) (r .kind) (r .cursor .at) ⌝ }
 {
     let x = from.first(text);
     if x == 0x2F {
-        let end = from.bump(text).eat_line(text);
+        let cursor = from.bump(text).eat_line(text);
         return Part {
             kind: kinds::LINE_COMMENT,
-            at: end.at,
+            cursor,
         };
     }
     if x == 0x2A {
         let b = block_comment(text, from.bump(text));
+        let cursor = b.cursor;
         if b.closed {
             return Part {
                 kind: kinds::BLOCK_COMMENT,
-                at: b.at,
+                cursor,
             };
         }
         return Part {
             kind: kinds::UNCLOSED_COMMENT,
-            at: b.at,
+            cursor,
         };
     }
     Part {
         kind: kinds::SLASH,
-        at: from.at,
+        cursor: from,
     }
 }

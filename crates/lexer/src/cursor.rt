@@ -5,10 +5,11 @@ ghost use mathlib.Core.List.{tail};
 ghost use Prim.Native.Nat.{_≤_};
 ghost use lib.ListN.{length, getD};
 ghost use Rattle.unicode.specs.Ranges.{_to_, inRange};
-ghost use Rattle.unicode.specs.Text.{Place, Ate, left, skip};
+ghost use Rattle.unicode.specs.Steps.{Place, Ate};
+ghost use Rattle.unicode.specs.Text.{left, skip};
 ghost use Rattle.letters.specs.Chars.{isWhitespace};
 ghost use Rattle.lexer.specs.Cut.{peek, notLf, isDigit, isHexDigit, orUnderscore, met, wideEmoji, goesOn};
-ghost use Rattle.lexer.specs.Unicode.{startIn, moreIn, lent};
+ghost use Rattle.lexer.specs.Unicode.{startIn, moreIn, emojiIn};
 ghost use Rattle.lexer.specs.Steps.{Ran};
 use letters::is_whitespace;
 use ucd::is_emoji_in;
@@ -21,10 +22,10 @@ pub struct Cursor {
     pub at: usize,
 }
 
-// Whether a digit was eaten, and where the digits end.
+// Whether a digit was eaten, and the cursor behind the digits.
 pub struct Digits {
     pub any: bool,
-    pub at: usize,
+    pub cursor: Cursor,
 }
 
 // The byte at a place, or 0 past the end.
@@ -80,8 +81,8 @@ fn is_hex_digit(c: u32) -> bool
     is_between(0x61, 0x66, c)
 }
 
-pub fn is_wide_emoji(start: &[u32], more: &[u32], emoji: &[u32], c: u32) -> bool
-    ensures { λ r. ⌜ r ≡ wideEmoji (lent (now (start .entry)) (now (more .entry)) (now (emoji .entry))) c ⌝ }
+pub fn is_wide_emoji(emoji: &[u32], c: u32) -> bool
+    ensures { λ r. ⌜ r ≡ wideEmoji (emojiIn (now (emoji .entry))) c ⌝ }
 {
     if c < 0x80 {
         return false;
@@ -89,13 +90,13 @@ pub fn is_wide_emoji(start: &[u32], more: &[u32], emoji: &[u32], c: u32) -> bool
     is_emoji_in(emoji, c)
 }
 
-fn goes_on(start: &[u32], more: &[u32], emoji: &[u32], c: u32) -> bool
-    ensures { λ r. ⌜ r ≡ goesOn (lent (now (start .entry)) (now (more .entry)) (now (emoji .entry))) c ⌝ }
+fn goes_on(more: &[u32], emoji: &[u32], c: u32) -> bool
+    ensures { λ r. ⌜ r ≡ goesOn (moreIn (now (more .entry))) (emojiIn (now (emoji .entry))) c ⌝ }
 {
     if is_xid_continue_in(more, c) {
         return true;
     }
-    if is_wide_emoji(start, more, emoji, c) {
+    if is_wide_emoji(emoji, c) {
         return true;
     }
     c == 0x200D
@@ -200,14 +201,14 @@ impl Cursor {
     }
 
     // The rest of an identifier that holds an emoji.
-    pub fn eat_fake(self, text: &[u8], start: &[u32], more: &[u32], emoji: &[u32]) -> Cursor
+    pub fn eat_fake(self, text: &[u8], more: &[u32], emoji: &[u32]) -> Cursor
         requires { ⌜ self .at ≤ length (now text) ⌝ }
-        ensures { λ r. ⌜ Place (now (text .entry)) (self .at) (r .at) (skip (goesOn (lent (now (start .entry)) (now (more .entry)) (now (emoji .entry)))) (left (now (text .entry)) (self .at))) ⌝ }
+        ensures { λ r. ⌜ Place (now (text .entry)) (self .at) (r .at) (skip (goesOn (moreIn (now (more .entry))) (emojiIn (now (emoji .entry)))) (left (now (text .entry)) (self .at))) ⌝ }
     {
         let mut at = self.at;
         while at < text.len() {
             let d = decode(text, at);
-            if !goes_on(start, more, emoji, d.code) {
+            if !goes_on(more, emoji, d.code) {
                 return Cursor { at };
             }
             at = at + d.wide;
@@ -217,36 +218,48 @@ impl Cursor {
 
     pub fn eat_decimal_digits(self, text: &[u8]) -> Digits
         requires { ⌜ self .at ≤ length (now text) ⌝ }
-        ensures { λ r. ⌜ Ate (orUnderscore isDigit) (met isDigit) (now (text .entry)) (self .at) false (r .at) (r .any) ⌝ }
+        ensures { λ r. ⌜ Ate (orUnderscore isDigit) (met isDigit) (now (text .entry)) (self .at) false (r .cursor .at) (r .any) ⌝ }
     {
         let mut at = self.at;
         let mut any = false;
         while at < text.len() {
             let b = byte(text, at);
             if !is_digit_or_underscore(b) {
-                return Digits { any, at };
+                return Digits {
+                    any,
+                    cursor: Cursor { at },
+                };
             }
             any = met_digit(any, b);
             at = at + 1;
         }
-        Digits { any, at }
+        Digits {
+            any,
+            cursor: Cursor { at },
+        }
     }
 
     pub fn eat_hexadecimal_digits(self, text: &[u8]) -> Digits
         requires { ⌜ self .at ≤ length (now text) ⌝ }
-        ensures { λ r. ⌜ Ate (orUnderscore isHexDigit) (met isHexDigit) (now (text .entry)) (self .at) false (r .at) (r .any) ⌝ }
+        ensures { λ r. ⌜ Ate (orUnderscore isHexDigit) (met isHexDigit) (now (text .entry)) (self .at) false (r .cursor .at) (r .any) ⌝ }
     {
         let mut at = self.at;
         let mut any = false;
         while at < text.len() {
             let b = byte(text, at);
             if !is_hex_or_underscore(b) {
-                return Digits { any, at };
+                return Digits {
+                    any,
+                    cursor: Cursor { at },
+                };
             }
             any = met_hex(any, b);
             at = at + 1;
         }
-        Digits { any, at }
+        Digits {
+            any,
+            cursor: Cursor { at },
+        }
     }
 }
 

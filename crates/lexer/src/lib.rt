@@ -4,7 +4,7 @@ ghost use Rattle.unicode.specs.Utf8.{chars};
 ghost use Rattle.text.specs.Answer.{Answered};
 ghost use Rattle.letters.specs.Chars.{identBy, isIdent};
 ghost use Rattle.lexer.specs.Unicode.{startIn, moreIn};
-ghost use Rattle.lexer.specs.Outcome.{identified};
+ghost use Rattle.lexer.specs.Promises.{identified};
 
 mod advance;
 mod comments;

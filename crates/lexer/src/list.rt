@@ -5,7 +5,7 @@ ghost use lib.ListN.{length, set};
 ghost use Rattle.text.specs.Answer.{longest};
 ghost use Rattle.lexer.specs.Unicode.{lent, unicode};
 ghost use Rattle.lexer.specs.Steps.{Filled, Stored};
-ghost use Rattle.lexer.specs.Outcome.{tokensBy, Listed, CutRun, TokenAt};
+ghost use Rattle.lexer.specs.Promises.{tokensBy, Listed, CutRun, TokenAt};
 pub use crate::advance::Piece;
 use crate::advance::advance_token;
 use text::Answer;

@@ -5,15 +5,17 @@ ghost use mathlib.Core.List.{tail};
 ghost use Prim.Native.Nat.{_≤_};
 ghost use lib.Dec.{eqb};
 ghost use lib.ListN.{length};
-ghost use Rattle.unicode.specs.Text.{Place, left};
+ghost use Rattle.unicode.specs.Steps.{Place};
+ghost use Rattle.unicode.specs.Text.{left};
 ghost use Rattle.lexer.specs.Cut.{peek, isE, exponent, exponentOf, point, fraction, based, number, isUnit, identifier};
-ghost use Rattle.lexer.specs.Unicode.{lent};
+ghost use Rattle.lexer.specs.Unicode.{startIn, moreIn};
 ghost use Rattle.lexer.specs.Steps.{Parted};
 use crate::comments::Part;
 use crate::cursor::Cursor;
 use crate::cursor::Digits;
 use crate::cursor::is_digit;
 use crate::cursor::is_id_start_in;
+use crate::kinds;
 
 fn is_sign(c: u32) -> bool
     ensures { λ r. ⌜ r ≡ (eqb c 0x2D || eqb c 0x2B) ⌝ }
@@ -35,7 +37,7 @@ fn is_e(c: u32) -> bool
 
 fn eat_float_exponent(text: &[u8], from: Cursor) -> Digits
     requires { ⌜ from .at ≤ length (now text) ⌝ }
-    ensures { λ r. ⌜ Parted exponent (now (text .entry)) (from .at) (r .any) (r .at) ⌝ }
+    ensures { λ r. ⌜ Parted exponent (now (text .entry)) (from .at) (r .any) (r .cursor .at) ⌝ }
 {
     if is_sign(from.first(text)) {
         return from.bump(text).eat_decimal_digits(text);
@@ -46,47 +48,48 @@ fn eat_float_exponent(text: &[u8], from: Cursor) -> Digits
 // A Float, behind its e.
 fn exponent_of(text: &[u8], from: Cursor, base: u32) -> Part
     requires { ⌜ (from .at ≤ length (now text)) × (base ≤ 3) ⌝ }
-    ensures { λ r. ⌜ Parted (exponentOf base) (now (text .entry)) (from .at) (r .kind) (r .at) ⌝ }
+    ensures { λ r. ⌜ Parted (exponentOf base) (now (text .entry)) (from .at) (r .kind) (r .cursor .at) ⌝ }
 {
     let e = eat_float_exponent(text, from);
+    let cursor = e.cursor;
     if e.any {
         return Part {
-            kind: 48 + 2 * base,
-            at: e.at,
+            kind: kinds::FLOAT + 2 * base,
+            cursor,
         };
     }
     Part {
-        kind: 49 + 2 * base,
-        at: e.at,
+        kind: kinds::FLOAT_EMPTY_EXPONENT + 2 * base,
+        cursor,
     }
 }
 
 // A Float, behind its point.
 fn point(text: &[u8], from: Cursor, base: u32) -> Part
     requires { ⌜ (from .at ≤ length (now text)) × (base ≤ 3) ⌝ }
-    ensures { λ r. ⌜ Parted (point base) (now (text .entry)) (from .at) (r .kind) (r .at) ⌝ }
+    ensures { λ r. ⌜ Parted (point base) (now (text .entry)) (from .at) (r .kind) (r .cursor .at) ⌝ }
 {
     if !is_digit(from.first(text)) {
         return Part {
-            kind: 48 + 2 * base,
-            at: from.at,
+            kind: kinds::FLOAT + 2 * base,
+            cursor: from,
         };
     }
     let d = from.eat_decimal_digits(text);
-    let end = Cursor { at: d.at };
-    if is_e(end.first(text)) {
-        return exponent_of(text, end.bump(text), base);
+    let cursor = d.cursor;
+    if is_e(cursor.first(text)) {
+        return exponent_of(text, cursor.bump(text), base);
     }
     Part {
-        kind: 48 + 2 * base,
-        at: d.at,
+        kind: kinds::FLOAT + 2 * base,
+        cursor,
     }
 }
 
 // Behind the digits of a base: a point, an exponent, or nothing.
 fn fraction(text: &[u8], from: Cursor, base: u32) -> Part
     requires { ⌜ (from .at ≤ length (now text)) × (base ≤ 3) ⌝ }
-    ensures { λ r. ⌜ Parted (fraction base) (now (text .entry)) (from .at) (r .kind) (r .at) ⌝ }
+    ensures { λ r. ⌜ Parted (fraction base) (now (text .entry)) (from .at) (r .kind) (r .cursor .at) ⌝ }
 {
     let x = from.first(text);
     if x == 0x2E {
@@ -96,44 +99,53 @@ fn fraction(text: &[u8], from: Cursor, base: u32) -> Part
         return exponent_of(text, from.bump(text), base);
     }
     Part {
-        kind: 40 + 2 * base,
-        at: from.at,
+        kind: kinds::INT + 2 * base,
+        cursor: from,
     }
 }
 
 // Behind 0b, 0o or 0x and what digits there are.
 fn based(text: &[u8], d: Digits, base: u32) -> Part
-    requires { ⌜ (d .at ≤ length (now text)) × (base ≤ 3) ⌝ }
-    ensures { λ r. ⌜ Parted (based base (d .any)) (now (text .entry)) (d .at) (r .kind) (r .at) ⌝ }
+    requires { ⌜ (d .cursor .at ≤ length (now text)) × (base ≤ 3) ⌝ }
+    ensures { λ r. ⌜ Parted (based base (d .any)) (now (text .entry)) (d .cursor .at) (r .kind) (r .cursor .at) ⌝ }
 {
+    let cursor = d.cursor;
     if d.any {
-        return fraction(text, Cursor { at: d.at }, base);
+        return fraction(text, cursor, base);
     }
     Part {
-        kind: 41 + 2 * base,
-        at: d.at,
+        kind: kinds::INT_EMPTY + 2 * base,
+        cursor,
     }
 }
 
 // Behind a first digit.
 pub fn number(text: &[u8], from: Cursor, first_digit: u32) -> Part
     requires { ⌜ from .at ≤ length (now text) ⌝ }
-    ensures { λ r. ⌜ Parted (number «first_digit») (now (text .entry)) (from .at) (r .kind) (r .at) ⌝ }
+    ensures { λ r. ⌜ Parted (number «first_digit») (now (text .entry)) (from .at) (r .kind) (r .cursor .at) ⌝ }
 {
     if first_digit == 0x30 {
         let x = from.first(text);
         if x == 0x62 {
-            return based(text, from.bump(text).eat_decimal_digits(text), 0);
+            return based(
+                text,
+                from.bump(text).eat_decimal_digits(text),
+                kinds::BINARY,
+            );
         }
         if x == 0x6F {
-            return based(text, from.bump(text).eat_decimal_digits(text), 1);
+            return based(text, from.bump(text).eat_decimal_digits(text), kinds::OCTAL);
         }
         if x == 0x78 {
-            return based(text, from.bump(text).eat_hexadecimal_digits(text), 3);
+            return based(
+                text,
+                from.bump(text).eat_hexadecimal_digits(text),
+                kinds::HEXADECIMAL,
+            );
         }
     }
     let d = from.eat_decimal_digits(text);
-    fraction(text, Cursor { at: d.at }, 2)
+    fraction(text, d.cursor, kinds::DECIMAL)
 }
 
 fn is_unit(x: u32, y: u32) -> bool
@@ -160,9 +172,9 @@ pub fn has_timing_or_imaginary_suffix(text: &[u8], from: Cursor) -> bool
     is_unit(x, y)
 }
 
-fn eat_identifier(text: &[u8], from: Cursor, start: &[u32], more: &[u32], emoji: &[u32]) -> Cursor
+fn eat_identifier(text: &[u8], from: Cursor, start: &[u32], more: &[u32]) -> Cursor
     requires { ⌜ from .at ≤ length (now text) ⌝ }
-    ensures { λ r. ⌜ Place (now (text .entry)) (from .at) (r .at) (identifier (lent (now (start .entry)) (now (more .entry)) (now (emoji .entry))) (left (now (text .entry)) (from .at))) ⌝ }
+    ensures { λ r. ⌜ Place (now (text .entry)) (from .at) (r .at) (identifier (startIn (now (start .entry))) (moreIn (now (more .entry))) (left (now (text .entry)) (from .at))) ⌝ }
 {
     if !is_id_start_in(start, from.first(text)) {
         return from;
@@ -171,15 +183,9 @@ fn eat_identifier(text: &[u8], from: Cursor, start: &[u32], more: &[u32], emoji:
 }
 
 // The suffix of a literal is an identifier.
-pub fn eat_literal_suffix(
-    text: &[u8],
-    from: Cursor,
-    start: &[u32],
-    more: &[u32],
-    emoji: &[u32],
-) -> Cursor
+pub fn eat_literal_suffix(text: &[u8], from: Cursor, start: &[u32], more: &[u32]) -> Cursor
     requires { ⌜ from .at ≤ length (now text) ⌝ }
-    ensures { λ r. ⌜ Place (now (text .entry)) (from .at) (r .at) (identifier (lent (now (start .entry)) (now (more .entry)) (now (emoji .entry))) (left (now (text .entry)) (from .at))) ⌝ }
+    ensures { λ r. ⌜ Place (now (text .entry)) (from .at) (r .at) (identifier (startIn (now (start .entry))) (moreIn (now (more .entry))) (left (now (text .entry)) (from .at))) ⌝ }
 {
-    eat_identifier(text, from, start, more, emoji)
+    eat_identifier(text, from, start, more)
 }

@@ -9,11 +9,12 @@ ghost use Rattle.lexer.specs.Kinds.{str, bitStr};
 ghost use Rattle.lexer.specs.Steps.{Quoted, Added, bitsBy};
 use crate::cursor::Cursor;
 use crate::cursor::byte;
+use crate::kinds;
 
 pub struct Quote {
     pub closed: bool,
     pub kind: u32,
-    pub at: usize,
+    pub cursor: Cursor,
 }
 
 // What was seen of a quoted text: whether all of it is 0, 1, an underscore or LF; how many LF there are, none, one or many;
@@ -107,19 +108,19 @@ fn quote_kind(closed: bool, bits: bool, twice: bool) -> u32
     if bits {
         if twice {
             if closed {
-                return 61;
+                return kinds::BIT_STR_CONSECUTIVE_TERMINATED;
             }
-            return 60;
+            return kinds::BIT_STR_CONSECUTIVE;
         }
         if closed {
-            return 59;
+            return kinds::BIT_STR_TERMINATED;
         }
-        return 58;
+        return kinds::BIT_STR;
     }
     if closed {
-        return 57;
+        return kinds::STR_TERMINATED;
     }
-    56
+    kinds::STR
 }
 
 fn is_escape(text: &[u8], at: usize) -> bool
@@ -139,7 +140,7 @@ fn is_escape(text: &[u8], at: usize) -> bool
 // Behind a double quote, byte by byte: only ASCII ends it or is a bit.
 pub fn double_quoted_string(text: &[u8], from: Cursor) -> Quote
     requires { ⌜ from .at ≤ length (now text) ⌝ }
-    ensures { λ r. ⌜ Quoted (now (text .entry)) (from .at) (r .closed) (r .kind) (r .at) ⌝ }
+    ensures { λ r. ⌜ Quoted (now (text .entry)) (from .at) (r .closed) (r .kind) (r .cursor .at) ⌝ }
 {
     let mut at = from.at;
     let mut body = Body {
@@ -156,7 +157,7 @@ pub fn double_quoted_string(text: &[u8], from: Cursor) -> Quote
             return Quote {
                 closed: true,
                 kind,
-                at: at + 1,
+                cursor: Cursor { at: at + 1 },
             };
         }
         body = add(body, c);
@@ -172,6 +173,6 @@ pub fn double_quoted_string(text: &[u8], from: Cursor) -> Quote
     Quote {
         closed: false,
         kind,
-        at,
+        cursor: Cursor { at },
     }
 }

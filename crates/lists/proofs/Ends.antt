@@ -7,7 +7,7 @@ use mathlib.Core.Bool.{Bool}
 use mathlib.Core.List.{List, [], _∷_, _++_, tail, append-assoc}
 use lib.ListN.{length, drop, length-append}
 use Rattle.lists.specs.Eat.{eat}
-use Rattle.lists.specs.Ends.{Ends}
+use Rattle.lists.specs.Steps.{Ends}
 use Rattle.lists.proofs.Bools.{by-test}
 use Rattle.lists.proofs.Eat.{eat-more, eat-stop}
 

@@ -1,4 +1,4 @@
--- The laws of `specs/Put.antt`: nothing stored, one value stored, one store after another, and two that overlap.
+-- The laws of `Put`: nothing stored, one value stored, one store after another, and two that overlap.
 -- Assumes nothing.
 use Prim.Native.Nat.{ℕ, suc, _+_, _-_, _*_, _≤_, _<_}
 use native.Mathlib.Omega.{arith}
@@ -7,7 +7,7 @@ use mathlib.Core.Path.{_≡_, refl, ap, sym, _∙_}
 use mathlib.Core.List.{List, [], _∷_, _++_}
 use lib.ListN.{length, take, drop, set, length-set, length-append, length-take, length-drop, take-append-drop}
 use lib.Seq.{sets, set-set, set-comm, take-add, length-take-le}
-use Rattle.lists.specs.Put.{Put}
+use Rattle.lists.specs.Steps.{Put}
 
 module _ {A : Type 0} where
   pub sets-append : (a b out : List A) (k : ℕ) → sets (sets out k a) (k + length a) b ≡ sets out k (a ++ b)

@@ -8,7 +8,7 @@ use mathlib.Core.Bool.{Bool, cond}
 use mathlib.Core.List.{List, [], _++_}
 use lib.ListN.{length, drop, length-append}
 use lib.Seq.{sets, length-sets, sets-eq}
-use Rattle.lists.specs.Put.{PutIf}
+use Rattle.lists.specs.Steps.{PutIf}
 use Rattle.lists.proofs.Bools.{by-test}
 use Rattle.lists.proofs.Put.{sets-append}
 

@@ -4,7 +4,7 @@ use Prim.Native.Nat.{ℕ, zero, suc, _+_, _<_}
 use native.Mathlib.Omega.{arith}
 use mathlib.Core.Path.{_≡_}
 use lib.ListN.{getD}
-use Rattle.lists.specs.Values.{valuesFrom}
+use Rattle.lists.specs.Steps.{valuesFrom}
 
 pub values-at : (f : ℕ → ℕ) (n k i : ℕ) → i < n → getD (valuesFrom f k n) i 0 ≡ f (k + i)
 unfolding valuesFrom

@@ -14,17 +14,17 @@ use Rattle.lists.proofs.Bools.{by-test, both}
 use Rattle.unicode.specs.Ranges.{inTable}
 use Rattle.ucd.specs.Ucd.{xidStart, xidContinue}
 use Rattle.unicode.specs.Utf8.{chars, isScalar, encode, encodeAll, WellFormed}
-use Rattle.unicode.specs.Text.{bytes}
+use Rattle.unicode.specs.Text.{byteLength}
 use Rattle.unicode.proofs.Valid.{encoded-well-formed, well-formed-encoded, encode-append, encode-bytes, read-all}
 use Rattle.letters.specs.Chars.{isWhitespace, whitespace}
-use Rattle.lexer.specs.Cut.{Letters, Tok, advance, piece, tokens, total}
+use Rattle.lexer.specs.Cut.{Letters, Token, advance, nextToken, tokens, total}
 use Rattle.lexer.specs.Unicode.{unicode}
-use Rattle.lexer.specs.Outcome.{tokensOf}
+use Rattle.lexer.specs.Promises.{tokensOf}
 use Rattle.tokens.specs.Tiling.{Formed}
 use Rattle.tokens.proofs.Tiling.{tiles}
 use Rattle.locality.specs.Phases.{Usual}
 use Rattle.tokens.specs.Members.{isCounted, membersOf}
-use Rattle.locality.specs.Counted.{noneCount, Run, withNewline}
+use Rattle.locality.specs.Newline.{noneCount, Run, withNewline}
 use Rattle.locality.proofs.Phases.{ends}
 use Rattle.locality.proofs.Newline.{NoUnit}
 use Rattle.locality.proofs.Counted.{others-count}
@@ -69,11 +69,11 @@ module _ (u : Letters) (usual : Usual u) (profile : ℕ) where
     unit : NoUnit at
 
   starts : {w : List Item} {l z : List ℕ} → Cuts u profile w l z → 1 ≤ length (toks w) → noneCount (toks w) ≡ true → Starts l
-  unfolding all piece
+  unfolding all nextToken
   starts none n h = absurd (omega arith)
   starts (more {i = i} {k = k} {c = c} {e = e} {r = r} q x rest) n h =
       let a = both (not (isCounted (k .kind))) (noneCount (toks i)) h in
-      let b : isCounted (advance u profile c (e ++ r) .kind) ≡ false = ap (λ (y : Tok × List ℕ). isCounted (y .0 .kind)) x ∙ not-true (isCounted (k .kind)) (a .0) in
+      let b : isCounted (advance u profile c (e ++ r) .kind) ≡ false = ap (λ (y : Token × List ℕ). isCounted (y .0 .kind)) x ∙ not-true (isCounted (k .kind)) (a .0) in
       record { at = c; then = e ++ r; is = q; unit = first-unit c (e ++ r) b }
 
   -- ---- THE NEWLINE CLAUSE on characters: tokens i, a run w of tokens that do not count, and behind it j
@@ -86,7 +86,7 @@ module _ (u : Letters) (usual : Usual u) (profile : ℕ) where
 
 -- ---- on bytes
 -- the bytes of the new text
-new-bytes : (x y r : List ℕ) (from to : ℕ) → all isScalar (x ++ (y ++ r)) ≡ true → from ≡ bytes x → to ≡ bytes x + bytes y → withNewline (encodeAll (x ++ (y ++ r))) from to ≡ encodeAll (x ++ 0x0A ∷ r)
+new-bytes : (x y r : List ℕ) (from to : ℕ) → all isScalar (x ++ (y ++ r)) ≡ true → from ≡ byteLength x → to ≡ byteLength x + byteLength y → withNewline (encodeAll (x ++ (y ++ r))) from to ≡ encodeAll (x ++ 0x0A ∷ r)
 unfolding withNewline encodeAll encode
 new-bytes x y r from to h e f =
     let a = all-append isScalar x (y ++ r) h in
@@ -140,15 +140,15 @@ module _ (profile : ℕ) where
       rw (e .same) (clause-bytes from to (a .cuts) (b .cuts) n h (e .scalars) x y)
 
 -- ---- and it is no longer than the old one
-total-join : (a b : List Tok) → total (a ++ b) ≡ total a + total b
+total-join : (a b : List Token) → total (a ++ b) ≡ total a + total b
 total-join [] b = omega arith
 total-join (t ∷ a) b = omega (arith, total-join a b)
 
-each-behind : (a b : List Tok) → Each Formed (a ++ b) → Each Formed b
+each-behind : (a b : List Token) → Each Formed (a ++ b) → Each Formed b
 each-behind [] b e = e
 each-behind (t ∷ a) b e = each-behind a b (e .1)
 
-total-some : (a b : List Tok) → Each Formed (a ++ b) → 1 ≤ length a → 1 ≤ total a
+total-some : (a b : List Token) → Each Formed (a ++ b) → 1 ≤ length a → 1 ≤ total a
 total-some [] b e n = absurd (omega arith)
 total-some (t ∷ a) b e n = omega (arith, e .0 .some)
 

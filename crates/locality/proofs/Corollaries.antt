@@ -14,20 +14,21 @@ use borrow.Author.Tests.{eqb-true}
 use Rattle.lists.specs.All.{all}
 use Rattle.lists.proofs.Bools.{by-test, both}
 use Rattle.unicode.specs.Utf8.{chars, width, isScalar, encode, encodeAll, WellFormed}
-use Rattle.unicode.specs.Text.{bytes}
+use Rattle.unicode.specs.Text.{byteLength}
 use Rattle.unicode.proofs.Text.{bytes-append}
 use Rattle.unicode.proofs.Valid.{width-some, encoded-well-formed, well-formed-encoded, encode-append, encode-bytes, read-all}
 use Rattle.unicode.proofs.Ascii.{chars-ascii}
 use Rattle.letters.specs.Chars.{isWhitespace}
 use Rattle.lexer.specs.Kinds.{blockComment, whitespaceKind}
-use Rattle.lexer.specs.Cut.{Tok, piece, tokens, total}
+use Rattle.lexer.specs.Cut.{Token, nextToken, tokens, total}
 use Rattle.lexer.specs.Unicode.{unicode}
-use Rattle.lexer.specs.Outcome.{tokensOf}
+use Rattle.lexer.specs.Promises.{tokensOf}
 use Rattle.locality.specs.Phases.{Seen, bits, broken, other, seenKind}
 use Rattle.tokens.specs.Members.{isCounted, membersOf}
-use Rattle.locality.specs.Counted.{noneCount, lastIs, isLine, isOpen, isKept, LfIn, Run, withNewline, EndsAt, inserted}
+use Rattle.locality.specs.Newline.{noneCount, Run, withNewline}
+use Rattle.locality.specs.Changes.{lastIs, isLine, isOpen, isKept, LfIn, EndsAt, inserted}
 use Rattle.locality.proofs.Cuts.{Item, counted, texts, toks, counted-join, Cuts, more, cuts-text, cuts-join, first-cut, split, whole, cut-length, total-bytes, Over}
-use Rattle.locality.proofs.White.{white-uncounted, White, white-none, white-more, all-white, piece-white, kind-white}
+use Rattle.locality.proofs.White.{white-uncounted, White, white-none, white-more, all-white, next-white, kind-white}
 use Rattle.locality.proofs.Between.{Lasts, Closes, newline-end}
 use Rattle.lists.proofs.All.{all-append, all-join}
 use Rattle.locality.proofs.Written.{written, counted-of}
@@ -57,7 +58,7 @@ module _ (profile : ℕ) where
   open-quote (broken false) k h e = false≢true (sym h ∙ ap isOpen (sym e))
   open-quote other k h e = false≢true (sym h ∙ ap isOpen (sym e))
 
-  closes : (k : Tok) → isOpen (k .kind) ≡ false → Closes unicode unicode-usual profile k
+  closes : (k : Token) → isOpen (k .kind) ≡ false → Closes unicode unicode-usual profile k
   closes k h n = record { no-space = n; no-comment = λ e. false≢true (sym h ∙ ap isOpen e); no-quote = λ z e. open-quote z (k .kind) h e }
 
   last-closes : (i : List Item) → lastIs isOpen (toks i) ≡ false → Lasts unicode unicode-usual profile (Closes unicode unicode-usual profile) i
@@ -97,22 +98,22 @@ module _ (profile : ℕ) where
 
   -- ---- PUT IN
   -- the characters v behind x
-  inserted-bytes : (x r v : List ℕ) (at : ℕ) → all isScalar x ≡ true → at ≡ bytes x → inserted (encodeAll (x ++ r)) at (encodeAll v) ≡ encodeAll (x ++ (v ++ r))
+  inserted-bytes : (x r v : List ℕ) (at : ℕ) → all isScalar x ≡ true → at ≡ byteLength x → inserted (encodeAll (x ++ r)) at (encodeAll v) ≡ encodeAll (x ++ (v ++ r))
   unfolding inserted
   inserted-bytes x r v at h e =
       let n : length (encodeAll x) ≡ at = omega (arith, encode-bytes x h) in
       rw (encode-append x r, take-at (encodeAll x) (encodeAll r) at n, drop-at (encodeAll x) (encodeAll r) at n, encode-append x (v ++ r), encode-append v r)
 
-  insert-bytes : {i j : List Item} {l r : List ℕ} (c : ℕ) (e : List ℕ) (k : Tok) (v : List ℕ) (at : ℕ) → Cut i l (c ∷ (e ++ r)) → piece unicode profile c (e ++ r) ≡ (k, r) → isCounted (k .kind) ≡ false → Cut j r [] →
+  insert-bytes : {i j : List Item} {l r : List ℕ} (c : ℕ) (e : List ℕ) (k : Token) (v : List ℕ) (at : ℕ) → Cut i l (c ∷ (e ++ r)) → nextToken unicode profile c (e ++ r) ≡ (k, r) → isCounted (k .kind) ≡ false → Cut j r [] →
       Over unicode profile j i (texts i ++ c ∷ (e ++ (v ++ r))) → all isScalar l ≡ true → all isScalar v ≡ true → at ≡ total (toks i) + k .len →
       WellFormed (inserted (encodeAll l) at (encodeAll v)) × (membersOf profile (inserted (encodeAll l) at (encodeAll v)) ≡ membersOf profile (encodeAll l))
-  unfolding counted bytes
+  unfolding counted byteLength
   insert-bytes {i} {j} {l} {r} c e k v at a x n b o f g p =
       let y : List ℕ = texts i ++ c ∷ e in
       let t : l ≡ y ++ r = cuts-text unicode profile a ∙ sym (append-assoc (texts i) (c ∷ e) r) in
       let q = all-append isScalar y r (ap (all isScalar) (sym t) ∙ f) in
       let m : texts i ++ c ∷ (e ++ (v ++ r)) ≡ y ++ (v ++ r) = sym (append-assoc (texts i) (c ∷ e) (v ++ r)) in
-      let h : at ≡ bytes y = omega (arith, total-bytes unicode profile a, cut-length unicode profile c e r k x, bytes-append (texts i) (c ∷ e)) in
+      let h : at ≡ byteLength y = omega (arith, total-bytes unicode profile a, cut-length unicode profile c e r k x, bytes-append (texts i) (c ∷ e)) in
       let z : inserted (encodeAll l) at (encodeAll v) ≡ encodeAll (texts i ++ c ∷ (e ++ (v ++ r))) =
       ap (λ (w : List ℕ). inserted (encodeAll w) at (encodeAll v)) t ∙ inserted-bytes y r v at (q .0) h ∙ ap encodeAll (sym m) in
       let w : all isScalar (texts i ++ c ∷ (e ++ (v ++ r))) ≡ true = ap (all isScalar) m ∙ all-join isScalar y (v ++ r) (q .0) (all-join isScalar v r g (q .1)) in
@@ -121,8 +122,8 @@ module _ (profile : ℕ) where
       (rw z (encoded-well-formed (texts i ++ c ∷ (e ++ (v ++ r))) w), rw z (same-bytes d (o .cuts) f w s))
 
   -- behind a token of a text
-  insert-at : {s : List ℕ} {at : ℕ} {t : Tok} (v : List ℕ) → WellFormed s → EndsAt profile s at t → isCounted (t .kind) ≡ false → all isScalar v ≡ true →
-      ((i j : List Item) (l r : List ℕ) (c : ℕ) (e : List ℕ) → Cut i l (c ∷ (e ++ r)) → piece unicode profile c (e ++ r) ≡ (t, r) → Cut j r [] → Over unicode profile j i (texts i ++ c ∷ (e ++ (v ++ r)))) →
+  insert-at : {s : List ℕ} {at : ℕ} {t : Token} (v : List ℕ) → WellFormed s → EndsAt profile s at t → isCounted (t .kind) ≡ false → all isScalar v ≡ true →
+      ((i j : List Item) (l r : List ℕ) (c : ℕ) (e : List ℕ) → Cut i l (c ∷ (e ++ r)) → nextToken unicode profile c (e ++ r) ≡ (t, r) → Cut j r [] → Over unicode profile j i (texts i ++ c ∷ (e ++ (v ++ r)))) →
       WellFormed (inserted s at (encodeAll v)) × (membersOf profile (inserted s at (encodeAll v)) ≡ membersOf profile s)
   unfolding tokensOf
   insert-at {s} {at} {t} v f p n g over =
@@ -145,7 +146,7 @@ module _ (profile : ℕ) where
   free k h = by-test (eqb k blockComment) (λ e. inl (eqb-true k blockComment e)) (λ e. inr (eqb-true k whitespaceKind (rw e at h)))
 
   -- white space put directly behind a token that does not count
-  pub white-inserted : {s : List ℕ} {at : ℕ} {t : Tok} (v : List ℕ) → WellFormed s → EndsAt profile s at t → isCounted (t .kind) ≡ false → WellFormed v → all isWhitespace (chars v) ≡ true →
+  pub white-inserted : {s : List ℕ} {at : ℕ} {t : Token} (v : List ℕ) → WellFormed s → EndsAt profile s at t → isCounted (t .kind) ≡ false → WellFormed v → all isWhitespace (chars v) ≡ true →
       WellFormed (inserted s at v) × (membersOf profile (inserted s at v) ≡ membersOf profile s)
   white-inserted {s} {at} {t} v f p n g h =
       let e = well-formed-encoded v g in
@@ -154,7 +155,7 @@ module _ (profile : ℕ) where
 
   -- comments and white space put directly behind white space or a closed block comment: any text of tokens that do not count, of which the
   -- last is no line comment
-  pub text-inserted : {s : List ℕ} {at : ℕ} {t : Tok} (v : List ℕ) → WellFormed s → EndsAt profile s at t → (eqb (t .kind) blockComment || eqb (t .kind) whitespaceKind) ≡ true → WellFormed v →
+  pub text-inserted : {s : List ℕ} {at : ℕ} {t : Token} (v : List ℕ) → WellFormed s → EndsAt profile s at t → (eqb (t .kind) blockComment || eqb (t .kind) whitespaceKind) ≡ true → WellFormed v →
       noneCount (tokensOf profile v) ≡ true → lastIs isLine (tokensOf profile v) ≡ false → WellFormed (inserted s at v) × (membersOf profile (inserted s at v) ≡ membersOf profile s)
   unfolding tokensOf
   text-inserted {s} {at} {t} v f p k g m h =
@@ -173,8 +174,8 @@ record Longer (x y r s : List ℕ) : Type 0 where
   whole : y ≡ x ++ between
   left : r ≡ between ++ s
 
-longer : (x y r s : List ℕ) → x ++ r ≡ y ++ s → bytes x ≤ bytes y → Longer x y r s
-unfolding bytes
+longer : (x y r s : List ℕ) → x ++ r ≡ y ++ s → byteLength x ≤ byteLength y → Longer x y r s
+unfolding byteLength
 longer [] y r s e n = record { between = y; whole = refl; left = e }
 longer (c ∷ x) [] r s e n = absurd (omega (arith, width-some c))
 longer (c ∷ x) (d ∷ y) r s e n =
@@ -201,13 +202,13 @@ module _ (profile : ℕ) where
   white-head : {c : ℕ} {x : List ℕ} → White (c ∷ x) → (isWhitespace c ≡ true) × White x
   white-head (white-more h w) = (h, w)
 
-  token-white : (c : ℕ) (e r : List ℕ) (k : Tok) → piece unicode profile c (e ++ r) ≡ (k, r) → k .kind ≡ whitespaceKind → White (c ∷ e)
+  token-white : (c : ℕ) (e r : List ℕ) (k : Token) → nextToken unicode profile c (e ++ r) ≡ (k, r) → k .kind ≡ whitespaceKind → White (c ∷ e)
   token-white c e r k h w =
       let b = kind-white unicode profile c (e ++ r) r k h w in
-      white-more b (all-white e r (ap (λ (y : Tok × List ℕ). y .1) (sym (piece-white unicode profile c (e ++ r) b) ∙ h)))
+      white-more b (all-white e r (ap (λ (y : Token × List ℕ). y .1) (sym (next-white unicode profile c (e ++ r) b) ∙ h)))
 
   -- in a token of white space: x before the LF, y behind it
-  crlf-chars : {i j : List Item} {l r : List ℕ} (c : ℕ) (e x y : List ℕ) (k : Tok) → Cut profile i l (c ∷ (e ++ r)) → piece unicode profile c (e ++ r) ≡ (k, r) → k .kind ≡ whitespaceKind → Cut profile j r [] →
+  crlf-chars : {i j : List Item} {l r : List ℕ} (c : ℕ) (e x y : List ℕ) (k : Token) → Cut profile i l (c ∷ (e ++ r)) → nextToken unicode profile c (e ++ r) ≡ (k, r) → k .kind ≡ whitespaceKind → Cut profile j r [] →
       c ∷ e ≡ x ++ 0x0A ∷ y → (x ≡ [] → lastIs isKept (toks i) ≡ false) → Over unicode profile j i (texts i ++ (x ++ 0x0D ∷ 0x0A ∷ (y ++ r)))
   crlf-chars {i} {j} {l} {r} c e [] y k a h w b q f =
       let v = white-split (0x0A ∷ []) y (subst White q (token-white c e r k h w)) in
@@ -227,31 +228,31 @@ module _ (profile : ℕ) where
     front : A ≡ texts i ++ before
     back : B ≡ after ++ r
 
-  within : (c : ℕ) (e r A B : List ℕ) (i : List Item) → A ++ 0x0A ∷ B ≡ texts i ++ (c ∷ (e ++ r)) → bytes (texts i) ≤ bytes A → bytes A < bytes (texts i) + bytes (c ∷ e) → Within c e r A B i
+  within : (c : ℕ) (e r A B : List ℕ) (i : List Item) → A ++ 0x0A ∷ B ≡ texts i ++ (c ∷ (e ++ r)) → byteLength (texts i) ≤ byteLength A → byteLength A < byteLength (texts i) + byteLength (c ∷ e) → Within c e r A B i
   within c e r A B i t m n =
       let x = longer (texts i) A (c ∷ (e ++ r)) (0x0A ∷ B) (sym t) m in
-      let k : bytes A ≡ bytes (texts i) + bytes (x .between) = ap bytes (x .whole) ∙ bytes-append (texts i) (x .between) in
+      let k : byteLength A ≡ byteLength (texts i) + byteLength (x .between) = ap byteLength (x .whole) ∙ bytes-append (texts i) (x .between) in
       let w = longer (x .between) (c ∷ e) (0x0A ∷ B) r (sym (x .left)) (omega arith) in
       go (x .between) (x .whole) k (w .between) (w .whole) (w .left)
     where
-      go : (x : List ℕ) → A ≡ texts i ++ x → bytes A ≡ bytes (texts i) + bytes x → (w : List ℕ) → c ∷ e ≡ x ++ w → 0x0A ∷ B ≡ w ++ r → Within c e r A B i
-      go x a k [] q l = absurd (omega (arith, ap bytes q, ap bytes (append-nil x)))
+      go : (x : List ℕ) → A ≡ texts i ++ x → byteLength A ≡ byteLength (texts i) + byteLength x → (w : List ℕ) → c ∷ e ≡ x ++ w → 0x0A ∷ B ≡ w ++ r → Within c e r A B i
+      go x a k [] q l = absurd (omega (arith, ap byteLength q, ap byteLength (append-nil x)))
       go x a k (d ∷ y) q l =
           let h : 0x0A ≡ d = cc in
           record { before = x; after = y; token = q ∙ ap (λ (z : ℕ). x ++ z ∷ y) (sym h); front = a; back = cc }
 
-  crlf-cut : {i j : List Item} {l r : List ℕ} (c : ℕ) (e : List ℕ) (k : Tok) (A B : List ℕ) → Cut profile i l (c ∷ (e ++ r)) → piece unicode profile c (e ++ r) ≡ (k, r) → k .kind ≡ whitespaceKind → Cut profile j r [] →
-      l ≡ A ++ 0x0A ∷ B → total (toks i) ≤ bytes A → bytes A < total (toks i) + k .len → (total (toks i) ≡ bytes A → lastIs isKept (toks i) ≡ false) → Over unicode profile j i (A ++ 0x0D ∷ 0x0A ∷ B)
+  crlf-cut : {i j : List Item} {l r : List ℕ} (c : ℕ) (e : List ℕ) (k : Token) (A B : List ℕ) → Cut profile i l (c ∷ (e ++ r)) → nextToken unicode profile c (e ++ r) ≡ (k, r) → k .kind ≡ whitespaceKind → Cut profile j r [] →
+      l ≡ A ++ 0x0A ∷ B → total (toks i) ≤ byteLength A → byteLength A < total (toks i) + k .len → (total (toks i) ≡ byteLength A → lastIs isKept (toks i) ≡ false) → Over unicode profile j i (A ++ 0x0D ∷ 0x0A ∷ B)
   crlf-cut {i} {j} {l} {r} c e k A B a h w b q m n f =
       let t = total-bytes unicode profile a in
       let v = within c e r A B i (sym q ∙ cuts-text unicode profile a) (omega arith) (omega (arith, cut-length unicode profile c e r k h)) in
       let x : texts i ++ (v .before ++ 0x0D ∷ 0x0A ∷ (v .after ++ r)) ≡ A ++ 0x0D ∷ 0x0A ∷ B =
       sym (append-assoc (texts i) (v .before) (0x0D ∷ 0x0A ∷ (v .after ++ r))) ∙ ap₂ (λ (y z : List ℕ). y ++ 0x0D ∷ 0x0A ∷ z) (sym (v .front)) (sym (v .back)) in
-      let g : v .before ≡ [] → lastIs isKept (toks i) ≡ false = λ z. f (t ∙ ap bytes (sym (v .front ∙ ap (λ (y : List ℕ). texts i ++ y) z ∙ append-nil (texts i)))) in
+      let g : v .before ≡ [] → lastIs isKept (toks i) ≡ false = λ z. f (t ∙ ap byteLength (sym (v .front ∙ ap (λ (y : List ℕ). texts i ++ y) z ∙ append-nil (texts i)))) in
       subst (λ (y : List ℕ). Over unicode profile j i y) x (crlf-chars c e (v .before) (v .after) k a h w b (v .token) g)
 
-  crlf-bytes : (A B : List ℕ) (k : Tok) (p q : List Tok) → all isScalar (A ++ 0x0A ∷ B) ≡ true → tokens unicode profile (A ++ 0x0A ∷ B) ≡ p ++ (k ∷ q) → k .kind ≡ whitespaceKind →
-      total p ≤ bytes A → bytes A < total p + k .len → (total p ≡ bytes A → lastIs isKept p ≡ false) →
+  crlf-bytes : (A B : List ℕ) (k : Token) (p q : List Token) → all isScalar (A ++ 0x0A ∷ B) ≡ true → tokens unicode profile (A ++ 0x0A ∷ B) ≡ p ++ (k ∷ q) → k .kind ≡ whitespaceKind →
+      total p ≤ byteLength A → byteLength A < total p + k .len → (total p ≡ byteLength A → lastIs isKept p ≡ false) →
       WellFormed (encodeAll (A ++ 0x0D ∷ 0x0A ∷ B)) × (membersOf profile (encodeAll (A ++ 0x0D ∷ 0x0A ∷ B)) ≡ membersOf profile (encodeAll (A ++ 0x0A ∷ B)))
   unfolding all isScalar
   crlf-bytes A B k p q v h w m n f =
@@ -274,7 +275,7 @@ module _ (profile : ℕ) where
       let A = well-formed-encoded a f in
       let L = well-formed-encoded (a ++ 0x0A ∷ b) g in
       let B : List ℕ = chars b in
-      let n : bytes (A .of) ≡ length a = sym (ap length (A .same) ∙ encode-bytes (A .of) (A .scalars)) in
+      let n : byteLength (A .of) ≡ length a = sym (ap length (A .same) ∙ encode-bytes (A .of) (A .scalars)) in
       let v : chars (a ++ 0x0A ∷ b) ≡ A .of ++ 0x0A ∷ B = read-front a (0x0A ∷ b) A ∙ ap (λ (z : List ℕ). A .of ++ z) (chars-ascii 0x0A b (omega arith)) in
       let l : L .of ≡ A .of ++ 0x0A ∷ B = sym (ap chars (L .same) ∙ read-all (L .of) (L .scalars)) ∙ v in
       let w : a ++ 0x0A ∷ b ≡ encodeAll (A .of) ++ 0x0A ∷ encodeAll B = L .same ∙ ap encodeAll l ∙ encode-append (A .of) (0x0A ∷ B) in

@@ -12,7 +12,7 @@ use Rattle.lists.proofs.Bools.{by-test, on-cond}
 use Rattle.unicode.specs.Text.{skip}
 use Rattle.letters.specs.Chars.{isWhitespace}
 use Rattle.lexer.specs.Kinds.{marks, markIn, int, float, bitStr, str, whitespaceKind}
-use Rattle.lexer.specs.Cut.{Letters, Token, Quote, peek, isDigit, isE, block, slash, digits, exponent, exponentOf, point, fraction, based, number, quoted, quoteKind, isBit, withoutLf, twice, pragmaWord, agree, pound, wideEmoji, name, word, annotated, hardware, advance}
+use Rattle.lexer.specs.Cut.{Letters, Piece, Quote, peek, isDigit, isE, block, slash, digits, exponent, exponentOf, point, fraction, based, number, quoted, quoteKind, isBit, withoutLf, twice, pragmaWord, agree, pound, wideEmoji, name, word, annotated, hardware, advance}
 use Rattle.lexer.proofs.Shapes.{mark-has}
 use Rattle.tokens.specs.Members.{isCounted}
 
@@ -68,11 +68,11 @@ unfolding marks isCounted all
 all-count = refl
 
 module _ (u : Letters) where
-  name-counts : (t : List ℕ) → Counts (name u t)
+  name-counts : (t : List ℕ) → Counts (name (u .more) (u .emoji) t)
   unfolding name isCounted
-  name-counts t = on-cond Counts (wideEmoji u (peek (skip (u .more) t))) refl refl
+  name-counts t = on-cond Counts (wideEmoji (u .emoji) (peek (skip (u .more) t))) refl refl
 
-  word-counts : (profile c : ℕ) (t : List ℕ) → Counts (word u profile c t)
+  word-counts : (profile c : ℕ) (t : List ℕ) → Counts (word (u .more) (u .emoji) profile c t)
   unfolding word isCounted
   word-counts profile c t = on-cond Counts (eqb profile 1 && eqb (agree pragmaWord (c ∷ t)) 6) refl (name-counts t)
 
@@ -80,19 +80,19 @@ module _ (u : Letters) where
   unfolding pound isCounted
   pound-counts t = on-cond Counts (eqb (agree pragmaWord t) 6) refl refl
 
-  annotated-counts : (t : List ℕ) → Counts (annotated u t)
+  annotated-counts : (t : List ℕ) → Counts (annotated (u .start) t)
   unfolding annotated isCounted
   annotated-counts t = on-cond Counts (u .start (peek t)) refl refl
 
-  hardware-counts : (t : List ℕ) → Counts (hardware u t)
+  hardware-counts : (t : List ℕ) → Counts (hardware (u .more) (u .emoji) t)
   unfolding hardware isCounted
-  hardware-counts t = on-cond Counts (wideEmoji u (peek t)) refl (on-cond (λ (k : ℕ). isCounted k ≡ true) (digits isDigit t .0) refl refl)
+  hardware-counts t = on-cond Counts (wideEmoji (u .emoji) (peek t)) refl (on-cond (λ (k : ℕ). isCounted k ≡ true) (digits isDigit t .0) refl refl)
 
   -- ---- behind any other first character a token counts
   pub others-count : (profile c : ℕ) (t : List ℕ) → eqb c 0x2F ≡ false → isWhitespace c ≡ false → isCounted (advance u profile c t .kind) ≡ true
   unfolding advance isCounted
   others-count profile c t h k =
-      let P : Token → Type 0 = λ a. isCounted (a .kind) ≡ true in
+      let P : Piece → Type 0 = λ a. isCounted (a .kind) ≡ true in
       let m = markIn marks c in
       rw (h, k)
       (on-cond P (u .start c) (word-counts profile c t)
@@ -101,7 +101,7 @@ module _ (u : Letters) where
       (on-cond P (eqb c 0x40) (annotated-counts t)
       (on-cond P (eqb c 0x24) (hardware-counts t)
       (by-test (eqb m 0)
-      (λ e. rw e (on-cond P (eqb c 0x22) (quote-counts (quoted t)) (on-cond P (wideEmoji u c) refl refl)))
+      (λ e. rw e (on-cond P (eqb c 0x22) (quote-counts (quoted t)) (on-cond P (wideEmoji (u .emoji) c) refl refl)))
       (λ e. rw e (mark-has isCounted marks c all-count e))))))))
 
   -- ---- only white space is of its kind

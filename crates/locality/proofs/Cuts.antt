@@ -6,15 +6,15 @@ use mathlib.Core.Path.{_≡_, refl, ap, ap₂, sym, subst, _∙_}
 use mathlib.Core.Bool.{Bool, true, false, cond}
 use mathlib.Core.List.{List, [], _∷_, _++_, append-assoc, append-nil, cons≢nil}
 use Rattle.lists.proofs.Bools.{both}
-use Rattle.unicode.specs.Text.{bytes}
+use Rattle.unicode.specs.Text.{byteLength}
 use Rattle.unicode.proofs.Text.{bytes-append}
-use Rattle.lexer.specs.Cut.{Letters, Tok, advance, piece, tokens, total}
+use Rattle.lexer.specs.Cut.{Letters, Token, advance, nextToken, tokens, total}
 use Rattle.lexer.proofs.Shapes.{ends-advance, tokens-nil, tokens-cons}
 use Rattle.tokens.specs.Members.{isCounted}
 
 -- a token's record and its characters
 abbrev pub Item : Type 0
-Item = Tok × List ℕ
+Item = Token × List ℕ
 
 -- those that count
 unfoldable pub counted : List Item → List Item
@@ -26,7 +26,7 @@ unfoldable pub texts : List Item → List ℕ
 texts [] = []
 texts (i ∷ is) = i .1 ++ texts is
 
-abbrev pub toks : List Item → List Tok
+abbrev pub toks : List Item → List Token
 toks [] = []
 toks (i ∷ is) = i .0 ∷ toks is
 
@@ -43,7 +43,7 @@ module _ (u : Letters) (profile : ℕ) where
   -- l is cut into these tokens, each with its characters, and z is left
   pub data Cuts : List Item → List ℕ → List ℕ → Type 0 where
     none : {l : List ℕ} → Cuts [] l l
-    more : {l z : List ℕ} {i : List Item} {k : Tok} {c : ℕ} {e r : List ℕ} → l ≡ c ∷ (e ++ r) → piece u profile c (e ++ r) ≡ (k, r) → Cuts i r z → Cuts ((k, c ∷ e) ∷ i) l z
+    more : {l z : List ℕ} {i : List Item} {k : Token} {c : ℕ} {e r : List ℕ} → l ≡ c ∷ (e ++ r) → nextToken u profile c (e ++ r) ≡ (k, r) → Cuts i r z → Cuts ((k, c ∷ e) ∷ i) l z
 
   -- what is cut off, and what is left, are the whole
   pub cuts-text : {i : List Item} {l z : List ℕ} → Cuts i l z → l ≡ texts i ++ z
@@ -68,7 +68,7 @@ module _ (u : Letters) (profile : ℕ) where
       record { head = c; behind = e; text = refl; whole = h ∙ ap (λ (y : List ℕ). c ∷ (e ++ y)) (cuts-text rest) ∙ ap (λ (y : List ℕ). c ∷ y) (sym (append-assoc e (texts i) z)) }
 
   -- ---- the cuts of a text, by its tokens
-  pub record Split (p q : List Tok) (l : List ℕ) : Type 0 where
+  pub record Split (p q : List Token) (l : List ℕ) : Type 0 where
     pub items : List Item
     pub left : List ℕ
     pub cuts : Cuts items l left
@@ -76,52 +76,52 @@ module _ (u : Letters) (profile : ℕ) where
     pub rest : tokens u profile left ≡ q
 
   -- the first of them
-  pub record First (k : Tok) (q : List Tok) (l : List ℕ) : Type 0 where
+  pub record First (k : Token) (q : List Token) (l : List ℕ) : Type 0 where
     pub head : ℕ
     pub text : List ℕ
     pub left : List ℕ
     pub is : l ≡ head ∷ (text ++ left)
-    pub cut : piece u profile head (text ++ left) ≡ (k, left)
+    pub cut : nextToken u profile head (text ++ left) ≡ (k, left)
     pub rest : tokens u profile left ≡ q
 
-  pub first-cut : (k : Tok) (q : List Tok) (l : List ℕ) → tokens u profile l ≡ k ∷ q → First k q l
-  unfolding piece
+  pub first-cut : (k : Token) (q : List Token) (l : List ℕ) → tokens u profile l ≡ k ∷ q → First k q l
+  unfolding nextToken
   first-cut k q [] h = absurd (cons≢nil (sym h ∙ tokens-nil u profile))
   first-cut k q (c ∷ t) h =
       let r = advance u profile c t .rest in
       let d = ends-advance u profile c t in
-      let e : piece u profile c t .0 ∷ tokens u profile r ≡ k ∷ q = sym (tokens-cons u profile c t) ∙ h in
-      let a : piece u profile c t .0 ≡ k = cc in
+      let e : nextToken u profile c t .0 ∷ tokens u profile r ≡ k ∷ q = sym (tokens-cons u profile c t) ∙ h in
+      let a : nextToken u profile c t .0 ≡ k = cc in
       let b : tokens u profile r ≡ q = cc in
-      let f : piece u profile c t ≡ (k, r) = ap (λ (x : Tok). (x, r)) a in
-      record { head = c; text = d .front; left = r; is = ap (λ (x : List ℕ). c ∷ x) (d .is); cut = subst (λ (x : List ℕ). piece u profile c x ≡ (k, r)) (d .is) f; rest = b }
+      let f : nextToken u profile c t ≡ (k, r) = ap (λ (x : Token). (x, r)) a in
+      record { head = c; text = d .front; left = r; is = ap (λ (x : List ℕ). c ∷ x) (d .is); cut = subst (λ (x : List ℕ). nextToken u profile c x ≡ (k, r)) (d .is) f; rest = b }
 
-  pub split : (p q : List Tok) (l : List ℕ) → tokens u profile l ≡ p ++ q → Split p q l
+  pub split : (p q : List Token) (l : List ℕ) → tokens u profile l ≡ p ++ q → Split p q l
   split [] q l h = record { items = []; left = l; cuts = none; same = refl; rest = h }
   split (k ∷ p) q l h =
       let f = first-cut k (p ++ q) l h in
       let s = split p q (f .left) (f .rest) in
-      record { items = (k, f .head ∷ f .text) ∷ s .items; left = s .left; cuts = more (f .is) (f .cut) (s .cuts); same = ap (λ (x : List Tok). k ∷ x) (s .same); rest = s .rest }
+      record { items = (k, f .head ∷ f .text) ∷ s .items; left = s .left; cuts = more (f .is) (f .cut) (s .cuts); same = ap (λ (x : List Token). k ∷ x) (s .same); rest = s .rest }
 
   -- and its tokens, by its cuts
   pub cuts-tokens : {i : List Item} {l z : List ℕ} → Cuts i l z → tokens u profile l ≡ toks i ++ tokens u profile z
-  unfolding piece
+  unfolding nextToken
   cuts-tokens none = refl
   cuts-tokens (more {z = z} {i = i} {k = k} {c = c} {e = e} {r = r} h x rest) =
       ap (tokens u profile) h ∙ tokens-cons u profile c (e ++ r)
-      ∙ ap₂ (λ (y : Tok) (v : List ℕ). y ∷ tokens u profile v) (ap (λ (y : Tok × List ℕ). y .0) x) (ap (λ (y : Tok × List ℕ). y .1) x)
-      ∙ ap (λ (y : List Tok). k ∷ y) (cuts-tokens rest)
+      ∙ ap₂ (λ (y : Token) (v : List ℕ). y ∷ tokens u profile v) (ap (λ (y : Token × List ℕ). y .0) x) (ap (λ (y : Token × List ℕ). y .1) x)
+      ∙ ap (λ (y : List Token). k ∷ y) (cuts-tokens rest)
 
   -- the length of a token
-  pub cut-length : (c : ℕ) (e r : List ℕ) (k : Tok) → piece u profile c (e ++ r) ≡ (k, r) → k .len ≡ bytes (c ∷ e)
-  unfolding piece bytes
+  pub cut-length : (c : ℕ) (e r : List ℕ) (k : Token) → nextToken u profile c (e ++ r) ≡ (k, r) → k .len ≡ byteLength (c ∷ e)
+  unfolding nextToken byteLength
   cut-length c e r k h =
-      let n : bytes (c ∷ (e ++ r)) - bytes (advance u profile c (e ++ r) .rest) ≡ k .len = ap (λ (y : Tok × List ℕ). y .0 .len) h in
-      let m : advance u profile c (e ++ r) .rest ≡ r = ap (λ (y : Tok × List ℕ). y .1) h in
-      omega (arith, n, ap bytes m, bytes-append e r)
+      let n : byteLength (c ∷ (e ++ r)) - byteLength (advance u profile c (e ++ r) .rest) ≡ k .len = ap (λ (y : Token × List ℕ). y .0 .len) h in
+      let m : advance u profile c (e ++ r) .rest ≡ r = ap (λ (y : Token × List ℕ). y .1) h in
+      omega (arith, n, ap byteLength m, bytes-append e r)
 
-  pub total-bytes : {i : List Item} {l z : List ℕ} → Cuts i l z → total (toks i) ≡ bytes (texts i)
-  unfolding texts bytes
+  pub total-bytes : {i : List Item} {l z : List ℕ} → Cuts i l z → total (toks i) ≡ byteLength (texts i)
+  unfolding texts byteLength
   total-bytes none = refl
   total-bytes (more {i = i} {k = k} {c = c} {e = e} {r = r} h x rest) =
       omega (arith, cut-length c e r k x, total-bytes rest, bytes-append e (texts i))
@@ -147,7 +147,7 @@ module _ (u : Letters) (profile : ℕ) where
     pub cuts : Cuts new l []
     pub same : counted new ≡ counted i ++ counted j
 
-  pub one-more : {j i : List Item} {l m : List ℕ} (k : Tok) (c : ℕ) (e : List ℕ) → l ≡ c ∷ (e ++ m) → piece u profile c (e ++ m) ≡ (k, m) → Over j i m → Over j ((k, c ∷ e) ∷ i) l
+  pub one-more : {j i : List Item} {l m : List ℕ} (k : Token) (c : ℕ) (e : List ℕ) → l ≡ c ∷ (e ++ m) → nextToken u profile c (e ++ m) ≡ (k, m) → Over j i m → Over j ((k, c ∷ e) ∷ i) l
   unfolding counted
   one-more {j} {i} k c e h x o = record { new = (k, c ∷ e) ∷ o .new; cuts = more h x (o .cuts); same = both (isCounted (k .kind)) }
     where
@@ -161,12 +161,12 @@ module _ (u : Letters) (profile : ℕ) where
 
   -- ---- an uncounted token first
   pub over-first : {j : List Item} (c : ℕ) (t : List ℕ) → isCounted (advance u profile c t .kind) ≡ false → Over j [] (advance u profile c t .rest) → Over j [] (c ∷ t)
-  unfolding counted piece
+  unfolding counted nextToken
   over-first {j} c t h o =
       let d = ends-advance u profile c t in
-      let k = piece u profile c t .0 in
+      let k = nextToken u profile c t .0 in
       record {
         new = (k, c ∷ d .front) ∷ o .new;
-        cuts = more (ap (λ (y : List ℕ). c ∷ y) (d .is)) (subst (λ (y : List ℕ). piece u profile c y ≡ (k, advance u profile c t .rest)) (d .is) refl) (o .cuts);
+        cuts = more (ap (λ (y : List ℕ). c ∷ y) (d .is)) (subst (λ (y : List ℕ). nextToken u profile c y ≡ (k, advance u profile c t .rest)) (d .is) refl) (o .cuts);
         same = rw h (o .same);
       }

@@ -8,11 +8,11 @@ use lib.ListN.{length, drop, length-drop}
 use lib.Seq.{drop-drop}
 use Rattle.lists.proofs.Cut.{cut-nil, cut-cons, by-length}
 use Rattle.unicode.specs.Utf8.{first, chars}
-use Rattle.unicode.specs.Text.{bytes}
+use Rattle.unicode.specs.Text.{byteLength}
 use Rattle.unicode.proofs.Text.{chars-nil, chars-first, bytes-chars}
-use Rattle.lexer.specs.Cut.{Tok, piece, tokens, total}
+use Rattle.lexer.specs.Cut.{Token, nextToken, tokens, total}
 use Rattle.lexer.specs.Unicode.{unicode}
-use Rattle.lexer.specs.Outcome.{tokensOf}
+use Rattle.lexer.specs.Promises.{tokensOf}
 use Rattle.lexer.proofs.Shapes.{tokens-nil}
 use Rattle.tokens.proofs.First.{tokens-first, first-some}
 use Rattle.locality.specs.Cutter.{Cutter, cutBytes, firstToken}
@@ -34,25 +34,25 @@ module _ (k : Cutter) where
       ∙ rw (drop-one (k .next a s .len) a s (k .some a s))
 
   -- the tokens from a boundary on are those of the text from there on
-  pub from-boundary : (p q : List Tok) (s : List ℕ) → cutBytes k s ≡ p ++ q → q ≡ cutBytes k (drop (total p) s)
+  pub from-boundary : (p q : List Token) (s : List ℕ) → cutBytes k s ≡ p ++ q → q ≡ cutBytes k (drop (total p) s)
   from-boundary [] q s h = sym h
   from-boundary (t ∷ p) q [] h = absurd (cons≢nil (sym h ∙ cut-none))
   from-boundary (t ∷ p) q (a ∷ s) h =
       let e : k .next a s ∷ cutBytes k (drop (k .next a s .len) (a ∷ s)) ≡ t ∷ (p ++ q) = sym (cut-first a s) ∙ h in
       let f : k .next a s ≡ t = cc in
       let g : cutBytes k (drop (k .next a s .len) (a ∷ s)) ≡ p ++ q = cc in
-      let n : k .next a s .len ≡ t .len = ap (λ (x : Tok). x .len) f in
+      let n : k .next a s .len ≡ t .len = ap (λ (x : Token). x .len) f in
       from-boundary p q (drop (t .len) (a ∷ s)) (ap (λ (m : ℕ). cutBytes k (drop m (a ∷ s))) (sym n) ∙ g) ∙ ap (cutBytes k) (drop-drop (total p) (t .len) (a ∷ s))
 
   -- SAME ENDING, SAME TOKENS: where what is left behind two boundaries is the same, so are the tokens there
-  pub same-ending : (p q p′ q′ : List Tok) (s s′ : List ℕ) → cutBytes k s ≡ p ++ q → cutBytes k s′ ≡ p′ ++ q′ → drop (total p) s ≡ drop (total p′) s′ → q ≡ q′
+  pub same-ending : (p q p′ q′ : List Token) (s s′ : List ℕ) → cutBytes k s ≡ p ++ q → cutBytes k s′ ≡ p′ ++ q′ → drop (total p) s ≡ drop (total p′) s′ → q ≡ q′
   same-ending p q p′ q′ s s′ h h′ e = from-boundary p q s h ∙ ap (cutBytes k) e ∙ sym (from-boundary p′ q′ s′ h′)
 
 -- ---- OpenQASM 3
 module _ (profile : ℕ) where
   first-within : (a : ℕ) (s : List ℕ) → firstToken profile a s .len ≤ suc (length s)
-  unfolding piece
-  first-within a s = omega (arith, ap bytes (chars-first (a ∷ s) (omega arith)), bytes-chars (a ∷ s))
+  unfolding nextToken
+  first-within a s = omega (arith, ap byteLength (chars-first (a ∷ s) (omega arith)), bytes-chars (a ∷ s))
 
   -- that of OpenQASM 3 is one
   pub openQasm : Cutter
@@ -66,9 +66,9 @@ module _ (profile : ℕ) where
       (λ a s ih.
       let n = firstToken profile a s in
       tokens-first unicode profile (first (a ∷ s) .0) (chars (drop (first (a ∷ s) .1) (a ∷ s))) (a ∷ s) (chars-first (a ∷ s) (omega arith))
-      ∙ ap (λ (l : List Tok). n ∷ l) (ih (drop (n .len) (a ∷ s)) (omega (arith, length-drop (n .len) (a ∷ s), openQasm .some a s)))
+      ∙ ap (λ (l : List Token). n ∷ l) (ih (drop (n .len) (a ∷ s)) (omega (arith, length-drop (n .len) (a ∷ s), openQasm .some a s)))
       ∙ sym (cut-first openQasm a s))
 
   -- SAME ENDING, SAME TOKENS, of texts
-  pub same-tokens : (p q p′ q′ : List Tok) (s s′ : List ℕ) → tokensOf profile s ≡ p ++ q → tokensOf profile s′ ≡ p′ ++ q′ → drop (total p) s ≡ drop (total p′) s′ → q ≡ q′
+  pub same-tokens : (p q p′ q′ : List Token) (s s′ : List ℕ) → tokensOf profile s ≡ p ++ q → tokensOf profile s′ ≡ p′ ++ q′ → drop (total p) s ≡ drop (total p′) s′ → q ≡ q′
   same-tokens p q p′ q′ s s′ h h′ = same-ending openQasm p q p′ q′ s s′ (sym (tokens-cut s) ∙ h) (sym (tokens-cut s′) ∙ h′)

@@ -17,16 +17,17 @@ use Rattle.unicode.specs.Text.{skip, keep}
 use Rattle.unicode.proofs.Text.{skip-more, skip-stop}
 use Rattle.letters.specs.Chars.{isWhitespace, whitespace}
 use Rattle.lexer.specs.Kinds.{lineComment, blockComment, unclosedComment, whitespaceKind}
-use Rattle.lexer.specs.Cut.{Letters, Tok, Token, peek, notLf, opens, closes, block, slash, isUnit, advance, piece}
+use Rattle.lexer.specs.Cut.{Letters, Token, Piece, peek, notLf, opens, closes, block, slash, isUnit, advance, nextToken}
 use Rattle.locality.specs.Phases.{Line, ofComment, ofPragma, ofAnnotation, lineKind, act, Usual}
 use Rattle.tokens.specs.Members.{isCounted}
-use Rattle.locality.specs.Counted.{noneCount, lastIs, isLine, isKept}
+use Rattle.locality.specs.Newline.{noneCount}
+use Rattle.locality.specs.Changes.{lastIs, isLine, isKept}
 use Rattle.locality.proofs.Swap.{Swap}
 use Rattle.locality.proofs.Newline.{swap-one, cr-blank, lf-blank, Stops, blank-swap}
 use Rattle.locality.proofs.Counted.{others-count}
 use Rattle.locality.proofs.Cuts.{Item, counted, texts, toks, counted-join, Cuts, none, more, cuts-join, Over, one-more, over-self, over-first}
-use Rattle.locality.proofs.White.{White, white-none, white-more, lf-white, cr-white, white-join, white-isnt, all-white, piece-white, spaces, kind-white, over-white}
-use Rattle.locality.proofs.Between.{piece-swap, cuts-swap, Lasts, over-swap}
+use Rattle.locality.proofs.White.{White, white-none, white-more, lf-white, cr-white, white-join, white-isnt, all-white, next-white, spaces, kind-white, over-white}
+use Rattle.locality.proofs.Between.{next-swap, cuts-swap, Lasts, over-swap}
 
 -- ---- a closed block comment is closed whatever stands behind it
 -- it takes two characters at least
@@ -177,45 +178,45 @@ module _ (u : Letters) (usual : Usual u) (profile : ℕ) where
       by-test (eqb c 0x2F) (λ e. e)
       (λ e. by-test (isWhitespace c) (λ k. absurd (n (rw (e, k)))) (λ k. absurd (false≢true (sym h ∙ others-count u profile c t e k))))
 
-  advance-slash : (c : ℕ) (t : List ℕ) → eqb c 0x2F ≡ true → advance u profile c t ≡ record { kind = slash t .0; suff = c ∷ t; rest = slash t .1 }
+  advance-slash : (c : ℕ) (t : List ℕ) → eqb c 0x2F ≡ true → advance u profile c t ≡ record { kind = slash t .0; fromSuffix = c ∷ t; rest = slash t .1 }
   unfolding advance
   advance-slash c t h = rw h
 
   -- ---- behind white space and behind a closed block comment anything may stand
-  over-behind : {j : List Item} (c : ℕ) (e r s : List ℕ) (k : Tok) → piece u profile c (e ++ r) ≡ (k, r) → Free (k .kind) → Over u profile j [] s → Over u profile j [] (c ∷ (e ++ s))
-  unfolding piece counted isCounted
+  over-behind : {j : List Item} (c : ℕ) (e r s : List ℕ) (k : Token) → nextToken u profile c (e ++ r) ≡ (k, r) → Free (k .kind) → Over u profile j [] s → Over u profile j [] (c ∷ (e ++ s))
+  unfolding nextToken counted isCounted
   over-behind {j} c e r s k h (inr w) o =
       let b = kind-white u profile c (e ++ r) r k h w in
-      let v = all-white e r (ap (λ (y : Tok × List ℕ). y .1) (sym (piece-white u profile c (e ++ r) b) ∙ h)) in
+      let v = all-white e r (ap (λ (y : Token × List ℕ). y .1) (sym (next-white u profile c (e ++ r) b) ∙ h)) in
       let n = spaces u profile c e b v (o .cuts) in
       record { new = n .new; cuts = n .cuts; same = n .same ∙ o .same }
   over-behind {j} c e r s k h (inl w) o =
-      let kind : advance u profile c (e ++ r) .kind ≡ blockComment = ap (λ (y : Tok × List ℕ). y .0 .kind) h ∙ w in
+      let kind : advance u profile c (e ++ r) .kind ≡ blockComment = ap (λ (y : Token × List ℕ). y .0 .kind) h ∙ w in
       let f = slash-first c (e ++ r) (ap isCounted kind) (λ z. omega (arith, kind)) in
       let a = advance-slash c (e ++ r) f in
       let g : slash (e ++ r) ≡ (blockComment, r) =
-      ap₂ (λ (x : ℕ) (y : List ℕ). (x, y)) (ap (λ (y : Token). y .kind) (sym a) ∙ kind) (ap (λ (y : Token). y .rest) (sym a) ∙ ap (λ (y : Tok × List ℕ). y .1) h) in
-      let b : advance u profile c (e ++ s) ≡ record { kind = blockComment; suff = c ∷ (e ++ s); rest = s } = advance-slash c (e ++ s) f ∙ rw (slash-ahead e r s g) in
+      ap₂ (λ (x : ℕ) (y : List ℕ). (x, y)) (ap (λ (y : Piece). y .kind) (sym a) ∙ kind) (ap (λ (y : Piece). y .rest) (sym a) ∙ ap (λ (y : Token × List ℕ). y .1) h) in
+      let b : advance u profile c (e ++ s) ≡ record { kind = blockComment; fromSuffix = c ∷ (e ++ s); rest = s } = advance-slash c (e ++ s) f ∙ rw (slash-ahead e r s g) in
       over-first u profile c (e ++ s) (rw b) (rw b o)
 
   -- ---- behind a line comment stands white space
-  kind-line : (c : ℕ) (e r : List ℕ) (k : Tok) → piece u profile c (e ++ r) ≡ (k, r) → k .kind ≡ lineComment → (eqb c 0x2F ≡ true) × (slash (e ++ r) ≡ (lineComment, r))
-  unfolding piece isCounted
+  kind-line : (c : ℕ) (e r : List ℕ) (k : Token) → nextToken u profile c (e ++ r) ≡ (k, r) → k .kind ≡ lineComment → (eqb c 0x2F ≡ true) × (slash (e ++ r) ≡ (lineComment, r))
+  unfolding nextToken isCounted
   kind-line c e r k h w =
-      let kind : advance u profile c (e ++ r) .kind ≡ lineComment = ap (λ (y : Tok × List ℕ). y .0 .kind) h ∙ w in
+      let kind : advance u profile c (e ++ r) .kind ≡ lineComment = ap (λ (y : Token × List ℕ). y .0 .kind) h ∙ w in
       let f = slash-first c (e ++ r) (ap isCounted kind) (λ z. omega (arith, kind)) in
       let a = advance-slash c (e ++ r) f in
-      (f, ap₂ (λ (x : ℕ) (y : List ℕ). (x, y)) (ap (λ (y : Token). y .kind) (sym a) ∙ kind) (ap (λ (y : Token). y .rest) (sym a) ∙ ap (λ (y : Tok × List ℕ). y .1) h))
+      (f, ap₂ (λ (x : ℕ) (y : List ℕ). (x, y)) (ap (λ (y : Piece). y .kind) (sym a) ∙ kind) (ap (λ (y : Piece). y .rest) (sym a) ∙ ap (λ (y : Token × List ℕ). y .1) h))
 
-  over-line : {j : List Item} (c : ℕ) (e r s : List ℕ) (k : Tok) → piece u profile c (e ++ r) ≡ (k, r) → k .kind ≡ lineComment → Over u profile j [] (skip notLf s) → Over u profile j [] (c ∷ (e ++ s))
+  over-line : {j : List Item} (c : ℕ) (e r s : List ℕ) (k : Token) → nextToken u profile c (e ++ r) ≡ (k, r) → k .kind ≡ lineComment → Over u profile j [] (skip notLf s) → Over u profile j [] (c ∷ (e ++ s))
   unfolding isCounted
   over-line c e r s k h w o =
       let l = kind-line c e r k h w in
-      let b : advance u profile c (e ++ s) ≡ record { kind = lineComment; suff = c ∷ (e ++ s); rest = skip notLf s } = advance-slash c (e ++ s) (l .0) ∙ rw (line-ahead e r s (l .1)) in
+      let b : advance u profile c (e ++ s) ≡ record { kind = lineComment; fromSuffix = c ∷ (e ++ s); rest = skip notLf s } = advance-slash c (e ++ s) (l .0) ∙ rw (line-ahead e r s (l .1)) in
       over-first u profile c (e ++ s) (rw b) (rw b o)
 
   -- the rest of it begins with an LF, or is empty
-  line-rest : (c : ℕ) (e r : List ℕ) (k : Tok) → piece u profile c (e ++ r) ≡ (k, r) → k .kind ≡ lineComment → skip notLf r ≡ r
+  line-rest : (c : ℕ) (e r : List ℕ) (k : Token) → nextToken u profile c (e ++ r) ≡ (k, r) → k .kind ≡ lineComment → skip notLf r ≡ r
   line-rest c e r k h w =
       let l = kind-line c e r k h w in
       let q = line-ahead e r r (l .1) in
@@ -239,7 +240,7 @@ module _ (u : Letters) (usual : Usual u) (profile : ℕ) where
   some-left none n = absurd (omega arith)
   some-left (more h x rest) n = rw h (omega arith)
 
-  absorb-one : {j : List Item} (c : ℕ) (e r s : List ℕ) (k : Tok) → piece u profile c (e ++ r) ≡ (k, r) → not (isCounted (k .kind)) ≡ true → (k .kind ≡ lineComment → skip notLf s ≡ s) →
+  absorb-one : {j : List Item} (c : ℕ) (e r s : List ℕ) (k : Token) → nextToken u profile c (e ++ r) ≡ (k, r) → not (isCounted (k .kind)) ≡ true → (k .kind ≡ lineComment → skip notLf s ≡ s) →
       Over u profile j [] s → Over u profile j [] (c ∷ (e ++ s))
   absorb-one {j} c e r s k h n f o =
       elim (three (k .kind) (not-true (isCounted (k .kind)) n)) [
@@ -266,20 +267,20 @@ module _ (u : Letters) (usual : Usual u) (profile : ℕ) where
       record { new = i ++ o .new; cuts = cuts-join u profile x (o .cuts); same = counted-join i (o .new) ∙ ap (λ (y : List Item). counted i ++ y) (o .same) }
 
   -- the first character of an uncounted token
-  no-unit : (c : ℕ) (e r : List ℕ) (k : Tok) → piece u profile c (e ++ r) ≡ (k, r) → isCounted (k .kind) ≡ false → (y : ℕ) → isUnit c y ≡ false
-  unfolding piece
+  no-unit : (c : ℕ) (e r : List ℕ) (k : Token) → nextToken u profile c (e ++ r) ≡ (k, r) → isCounted (k .kind) ≡ false → (y : ℕ) → isUnit c y ≡ false
+  unfolding nextToken
   no-unit c e r k h n y =
       by-test (eqb c 0x2F) (slash-no-unit c y)
-      (λ a. by-test (isWhitespace c) (white-no-unit c y) (λ b. absurd (false≢true (sym (ap (λ (z : Tok × List ℕ). isCounted (z .0 .kind)) h ∙ n) ∙ others-count u profile c (e ++ r) a b))))
+      (λ a. by-test (isWhitespace c) (white-no-unit c y) (λ b. absurd (false≢true (sym (ap (λ (z : Token × List ℕ). isCounted (z .0 .kind)) h ∙ n) ∙ others-count u profile c (e ++ r) a b))))
 
   -- ---- PUT DIRECTLY BEHIND white space or a closed block comment: any text of tokens that do not count, the last of them no line comment
-  pub insert-chars : {i w j : List Item} {l r v : List ℕ} (c : ℕ) (e : List ℕ) (k : Tok) → Cuts u profile i l (c ∷ (e ++ r)) → piece u profile c (e ++ r) ≡ (k, r) → Free (k .kind) →
+  pub insert-chars : {i w j : List Item} {l r v : List ℕ} (c : ℕ) (e : List ℕ) (k : Token) → Cuts u profile i l (c ∷ (e ++ r)) → nextToken u profile c (e ++ r) ≡ (k, r) → Free (k .kind) →
       Cuts u profile j r [] → Cuts u profile w v [] → noneCount (toks w) ≡ true → lastIs isLine (toks w) ≡ false → Over u profile j i (texts i ++ c ∷ (e ++ (v ++ r)))
   insert-chars {r = r} {v = v} c e k h x f b w n l =
       over-front c (no-unit c e r k x (free-uncounted f)) h (over-behind c e r (v ++ r) k x f (absorbed w refl n l (over-self u profile b)))
 
   -- PUT DIRECTLY BEHIND any token that does not count: white space
-  pub insert-white : {i j : List Item} {l r v : List ℕ} (c : ℕ) (e : List ℕ) (k : Tok) → Cuts u profile i l (c ∷ (e ++ r)) → piece u profile c (e ++ r) ≡ (k, r) → isCounted (k .kind) ≡ false →
+  pub insert-white : {i j : List Item} {l r v : List ℕ} (c : ℕ) (e : List ℕ) (k : Token) → Cuts u profile i l (c ∷ (e ++ r)) → nextToken u profile c (e ++ r) ≡ (k, r) → isCounted (k .kind) ≡ false →
       Cuts u profile j r [] → White v → Over u profile j i (texts i ++ c ∷ (e ++ (v ++ r)))
   insert-white {r = r} {v = v} c e k h x n b w =
       over-front c (no-unit c e r k x n) h
@@ -302,15 +303,15 @@ module _ (u : Letters) (usual : Usual u) (profile : ℕ) where
     over-cr : Over u profile j [] new
     over-cr = spaces u profile 0x0D (0x0A ∷ y) cr-white (white-more lf-white blank) behind
 
-    over-uncounted : {l : List ℕ} (k : Tok) (w : List ℕ) → isCounted (k .kind) ≡ false → Over u profile j [] l → Over u profile j ((k, w) ∷ []) l
+    over-uncounted : {l : List ℕ} (k : Token) (w : List ℕ) → isCounted (k .kind) ≡ false → Over u profile j [] l → Over u profile j ((k, w) ∷ []) l
     unfolding counted
     over-uncounted k w h o = record { new = o .new; cuts = o .cuts; same = rw h (o .same) }
 
     -- the token before it is no Pragma and no Annotation
-    abbrev pub Fine : Tok → Type 0
+    abbrev pub Fine : Token → Type 0
     Fine k = isKept (k .kind) ≡ false
 
-    lines : (k : Tok) → Fine k → eqb (k .kind) lineComment ≡ false → (l : Line) → lineKind l ≡ k .kind → ⊥
+    lines : (k : Token) → Fine k → eqb (k .kind) lineComment ≡ false → (l : Line) → lineKind l ≡ k .kind → ⊥
     lines k f h ofComment e = eqb-false (k .kind) lineComment h (sym e)
     lines k f h ofPragma e = false≢true (sym f ∙ ap isKept (sym e))
     lines k f h ofAnnotation e = false≢true (sym f ∙ ap isKept (sym e))
@@ -322,13 +323,13 @@ module _ (u : Letters) (usual : Usual u) (profile : ℕ) where
     abbrev swap : Swap (act u) (Stops 0x0D) old new
     swap = blank-swap u usual 0x0A 0x0D (cr-blank u usual) (y ++ z) (0x0A ∷ (y ++ z)) (lf-blank u usual .second)
 
-    cr-alone : (k : Tok) (c : ℕ) (e : List ℕ) → Fine k → piece u profile c (e ++ old) ≡ (k, old) → Over u profile j ((k, c ∷ e) ∷ []) (c ∷ (e ++ new))
+    cr-alone : (k : Token) (c : ℕ) (e : List ℕ) → Fine k → nextToken u profile c (e ++ old) ≡ (k, old) → Over u profile j ((k, c ∷ e) ∷ []) (c ∷ (e ++ new))
     cr-alone k c e f h =
         by-test (isCounted (k .kind))
         (λ n.
         let space : k .kind ≡ whitespaceKind → ⊥ = λ w. false≢true (sym (free-uncounted (inr w)) ∙ n) in
         let line : eqb (k .kind) lineComment ≡ false = by-test (eqb (k .kind) lineComment) (λ w. absurd (false≢true (sym (line-uncounted (eqb-true (k .kind) lineComment w)) ∙ n))) (λ w. w) in
-        one-more u profile k c e refl (piece-swap u usual profile swap c e k (record { no-space = space; no-line = λ n. lines k f line }) h) over-cr)
+        one-more u profile k c e refl (next-swap u usual profile swap c e k (record { no-space = space; no-line = λ n. lines k f line }) h) over-cr)
         (λ n.
         over-uncounted k (c ∷ e) n
         (elim (three (k .kind) n) [

@@ -10,8 +10,8 @@ use Rattle.lists.specs.Eat.{eat}
 use Rattle.lists.proofs.Bools.{by-test}
 use Rattle.lists.proofs.Eat.{eat-nil, eat-more, eat-stop}
 use Rattle.unicode.specs.Utf8.{width}
-use Rattle.unicode.specs.Text.{bytes}
-use Rattle.lexer.specs.Cut.{Tok, Token}
+use Rattle.unicode.specs.Text.{byteLength}
+use Rattle.lexer.specs.Cut.{Token, Piece}
 use Rattle.locality.specs.Machine.{Act, eats, halts, ended, run}
 
 module _ {Q : Type 0} (act : Q → List ℕ → Act Q) where
@@ -20,7 +20,7 @@ module _ {Q : Type 0} (act : Q → List ℕ → Act Q) where
   unfolding run
   run-eats n m h = rw (h, run)
 
-  pub run-halts : {q : Q} {k : ℕ} (l : List ℕ) {b : Bool} (n m : ℕ) → act q l ≡ halts b k → run act q n m l ≡ (record { kind = k; len = n; suff = cond b n m }, l)
+  pub run-halts : {q : Q} {k : ℕ} (l : List ℕ) {b : Bool} (n m : ℕ) → act q l ≡ halts b k → run act q n m l ≡ (record { kind = k; len = n; suffix = cond b n m }, l)
   unfolding run
   run-halts [] n m h = rw h
   run-halts (c ∷ t) n m h = rw (h, run)
@@ -43,19 +43,19 @@ module _ {Q : Type 0} (act : Q → List ℕ → Act Q) where
       by-act (act q (c ∷ t)) (λ b p h. rw (run-eats n m h) (omega (arith, ih p b))) (λ b k h. rw (run-halts (c ∷ t) n m h) (omega arith))
 
   -- ---- by what is left, with no counting: the token whose suffix starts at m, where that has been met
-  unfoldable pub walk : Q → List ℕ → List ℕ → Token
-  walk q m [] = elim (act q []) [ eats b p ↦ record { kind = 0; suff = m; rest = [] } | halts b k ↦ record { kind = k; suff = cond b [] m; rest = [] } ]
+  unfoldable pub walk : Q → List ℕ → List ℕ → Piece
+  walk q m [] = elim (act q []) [ eats b p ↦ record { kind = 0; fromSuffix = m; rest = [] } | halts b k ↦ record { kind = k; fromSuffix = cond b [] m; rest = [] } ]
   walk q m (c ∷ t) =
       elim (act q (c ∷ t)) [
         | eats b p ↦ walk p (cond b (c ∷ t) m) t
-        | halts b k ↦ record { kind = k; suff = cond b (c ∷ t) m; rest = c ∷ t }
+        | halts b k ↦ record { kind = k; fromSuffix = cond b (c ∷ t) m; rest = c ∷ t }
       ]
 
   pub walk-eats : {q p : Q} {c : ℕ} {t : List ℕ} {b : Bool} (m : List ℕ) → act q (c ∷ t) ≡ eats b p → walk q m (c ∷ t) ≡ walk p (cond b (c ∷ t) m) t
   unfolding walk
   walk-eats m h = rw (h, walk)
 
-  pub walk-halts : {q : Q} {k : ℕ} {b : Bool} (m l : List ℕ) → act q l ≡ halts b k → walk q m l ≡ record { kind = k; suff = cond b l m; rest = l }
+  pub walk-halts : {q : Q} {k : ℕ} {b : Bool} (m l : List ℕ) → act q l ≡ halts b k → walk q m l ≡ record { kind = k; fromSuffix = cond b l m; rest = l }
   unfolding walk
   walk-halts m [] h = rw (h, walk)
   walk-halts m (c ∷ t) h = rw (h, walk)
@@ -67,27 +67,27 @@ module _ {Q : Type 0} (act : Q → List ℕ → Act Q) where
   walk-same m (c ∷ t) h = rw (h, walk)
 
   -- what the walk finds, counted from the start of a token of which `all` bytes were left
-  abbrev pub countedFrom : ℕ → Token → Tok × List ℕ
-  countedFrom all a = (record { kind = a .kind; len = all - bytes (a .rest); suff = all - bytes (a .suff) }, a .rest)
+  abbrev pub countedFrom : ℕ → Piece → Token × List ℕ
+  countedFrom all a = (record { kind = a .kind; len = all - byteLength (a .rest); suffix = all - byteLength (a .fromSuffix) }, a .rest)
 
-  same-tok : (k : ℕ) (l : List ℕ) {n n′ m m′ : ℕ} → n ≡ n′ → m ≡ m′ → _≡_ {A = Tok × List ℕ} (record { kind = k; len = n; suff = m }, l) (record { kind = k; len = n′; suff = m′ }, l)
-  same-tok k l e f = ap₂ (λ (x y : ℕ). (record { kind = k; len = x; suff = y }, l)) e f
+  same-tok : (k : ℕ) (l : List ℕ) {n n′ m m′ : ℕ} → n ≡ n′ → m ≡ m′ → _≡_ {A = Token × List ℕ} (record { kind = k; len = n; suffix = m }, l) (record { kind = k; len = n′; suffix = m′ }, l)
+  same-tok k l e f = ap₂ (λ (x y : ℕ). (record { kind = k; len = x; suffix = y }, l)) e f
 
   -- the suffix starts here, or where it was
-  here-or-there : (b : Bool) (l suff : List ℕ) (n m all : ℕ) → n + bytes l ≡ all → m + bytes suff ≡ all → cond b n m + bytes (cond b l suff) ≡ all
-  here-or-there true l suff n m all e f = e
-  here-or-there false l suff n m all e f = f
+  here-or-there : (b : Bool) (l from : List ℕ) (n m all : ℕ) → n + byteLength l ≡ all → m + byteLength from ≡ all → cond b n m + byteLength (cond b l from) ≡ all
+  here-or-there true l from n m all e f = e
+  here-or-there false l from n m all e f = f
 
-  pub run-walk : (l : List ℕ) (q : Q) (n m all : ℕ) (suff : List ℕ) → n + bytes l ≡ all → m + bytes suff ≡ all → run act q n m l ≡ countedFrom all (walk q suff l)
-  unfolding run walk bytes
-  run-walk [] q n m all suff e f =
+  pub run-walk : (l : List ℕ) (q : Q) (n m all : ℕ) (from : List ℕ) → n + byteLength l ≡ all → m + byteLength from ≡ all → run act q n m l ≡ countedFrom all (walk q from l)
+  unfolding run walk byteLength
+  run-walk [] q n m all from e f =
       by-act (act q []) (λ b p h. rw (h, run, walk) (same-tok 0 [] (omega arith) (omega arith)))
-      (λ b k h. rw (run-halts [] n m h, walk-halts suff [] h) (same-tok k [] (omega arith) (omega (arith, here-or-there b [] suff n m all e f))))
-  run-walk (c ∷ t) q n m all suff e f =
-      let ih : (p : Q) (n m : ℕ) (suff : List ℕ) → n + bytes t ≡ all → m + bytes suff ≡ all → run act p n m t ≡ countedFrom all (walk p suff t) = λ p n m suff e f. run-walk t p n m all suff e f in
+      (λ b k h. rw (run-halts [] n m h, walk-halts from [] h) (same-tok k [] (omega arith) (omega (arith, here-or-there b [] from n m all e f))))
+  run-walk (c ∷ t) q n m all from e f =
+      let ih : (p : Q) (n m : ℕ) (from : List ℕ) → n + byteLength t ≡ all → m + byteLength from ≡ all → run act p n m t ≡ countedFrom all (walk p from t) = λ p n m from e f. run-walk t p n m all from e f in
       by-act (act q (c ∷ t))
-      (λ b p h. rw (run-eats n m h, walk-eats suff h) (ih p (n + width c) (cond b n m) (cond b (c ∷ t) suff) (omega arith) (here-or-there b (c ∷ t) suff n m all e f)))
-      (λ b k h. rw (run-halts (c ∷ t) n m h, walk-halts suff (c ∷ t) h) (same-tok k (c ∷ t) (omega arith) (omega (arith, here-or-there b (c ∷ t) suff n m all e f))))
+      (λ b p h. rw (run-eats n m h, walk-eats from h) (ih p (n + width c) (cond b n m) (cond b (c ∷ t) from) (omega arith) (here-or-there b (c ∷ t) from n m all e f)))
+      (λ b k h. rw (run-halts (c ∷ t) n m h, walk-halts from (c ∷ t) h) (same-tok k (c ∷ t) (omega arith) (omega (arith, here-or-there b (c ∷ t) from n m all e f))))
 
   -- ---- to eat while a test holds
   module _ {S : Type 0} (x : S → Q) (p : ℕ → Bool) (g : S → ℕ → S) (goes : (s : S) (c : ℕ) (t : List ℕ) → p c ≡ true → act (x s) (c ∷ t) ≡ eats false (x (g s c))) where

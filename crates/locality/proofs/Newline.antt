@@ -141,8 +141,8 @@ pub record NoUnit (x : ℕ) : Type 0 where
 pub record Blank (u : Letters) (y : ℕ) : Type 0 where
   pub start : u .start y ≡ false
   pub more : u .more y ≡ false
-  pub emoji : wideEmoji u y ≡ false
-  pub goes : goesOn u y ≡ false
+  pub emoji : wideEmoji (u .emoji) y ≡ false
+  pub goes : goesOn (u .more) (u .emoji) y ≡ false
   pub digit : isDigit y ≡ false
   pub figures-none : ((base : ℕ) → orUnderscore (figure base) y ≡ false)
   pub low : eqb y 0x5F ≡ false
@@ -167,7 +167,7 @@ low-blank u y l f g =
     let digit : isDigit y ≡ false = rw (below 0x30 (omega arith)) in
     let hex : isHexDigit y ≡ false = rw (below 0x30 (omega arith), below 0x41 (omega arith), below 0x61 (omega arith)) in
     let low : eqb y 0x5F ≡ false = isnt 0x5F (omega arith) in
-    let emoji : wideEmoji u y ≡ false = rw (below 0x80 (omega arith)) in
+    let emoji : wideEmoji (u .emoji) y ≡ false = rw (below 0x80 (omega arith)) in
     record {
       start = f;
       more = g;
@@ -210,7 +210,7 @@ module _ (u : Letters) (usual : Usual u) (x y : ℕ) (blank : Blank u y) (r s : 
   Same f = (b : Bool) (k : ℕ) → f (x ∷ r) ≡ halts b k → f (y ∷ s) ≡ halts b k
 
   same-name : Same (nameActs u)
-  same-name b k h = rw (blank .more, blank .emoji) (past (wideEmoji u x) false emojiName (past (u .more x) false Phases.name h))
+  same-name b k h = rw (blank .more, blank .emoji) (past (wideEmoji (u .emoji) x) false emojiName (past (u .more x) false Phases.name h))
 
   same-suffix : (j : ℕ) → Same (suffixActs u j)
   same-suffix j b k h = rw (blank .start) (past (u .start x) true (suffixed j) h)
@@ -261,7 +261,7 @@ module _ (u : Letters) (usual : Usual u) (x y : ℕ) (blank : Blank u y) (r s : 
       let z : halts false whitespaceKind ≡ halts b k = past (isWhitespace x) false space h in
       absurd (o .no-space (cc))
   here Phases.name b k o h = same-name b k h
-  here emojiName b k o h = rw (blank .goes) (past (goesOn u x) false emojiName h)
+  here emojiName b k o h = rw (blank .goes) (past (goesOn (u .more) (u .emoji) x) false emojiName h)
   here (spelling bare n) b k o h =
       rw (blank .letters n) (either bare (past (eqb x (letter n)) false (cond (leb 5 n) (line ofPragma) (spelling bare (suc n))) h))
     where
@@ -269,7 +269,7 @@ module _ (u : Letters) (usual : Usual u) (x y : ℕ) (blank : Blank u y) (r s : 
       either true e = same-name b k e
       either false e = e
   here behindAt b k o h = rw (blank .start) (same-at b k h)
-  here behindDollar b k o h = rw (blank .emoji) (same-wire false b k (past (wideEmoji u x) false emojiName h))
+  here behindDollar b k o h = rw (blank .emoji) (same-wire false b k (past (wideEmoji (u .emoji) x) false emojiName h))
   here (wire any) b k o h = same-wire any b k h
   here zeroFirst b k o h =
       rw (blank .b, blank .o, blank .x)

@@ -14,11 +14,11 @@ use Rattle.lists.specs.Eat.{eat}
 use Rattle.lists.proofs.Bools.{by-test, both, and-false, or-true, on-cond}
 use Rattle.lists.proofs.Eat.{eat-nil, eat-more, eat-stop}
 use Rattle.unicode.specs.Utf8.{width}
-use Rattle.unicode.specs.Text.{bytes, skip, keep}
+use Rattle.unicode.specs.Text.{byteLength, skip, keep}
 use Rattle.unicode.proofs.Text.{skip-nil, skip-more, skip-stop}
 use Rattle.letters.specs.Chars.{isWhitespace}
 use Rattle.lexer.specs.Kinds.{blockComment, unclosedComment, whitespaceKind, ident, hardwareIdent, invalidIdent, pragma, atSign, dollar, slashMark, unknown, marks, markIn, int, float, str, bitStr}
-use Rattle.lexer.specs.Cut.{Letters, Token, Tok, peek, notLf, isDigit, isE, orUnderscore, met, opens, closes, block, slash, digits, exponent, exponentOf, point, fraction, based, number, isUnit, escapes, quoted, quoteKind, isBit, withoutLf, twice, pragmaWord, agree, pound, Quote, wideEmoji, goesOn, name, word, annotated, hardware, identifier, suffix, advance, piece, tokens}
+use Rattle.lexer.specs.Cut.{Letters, Piece, Token, peek, notLf, isDigit, isE, orUnderscore, met, opens, closes, block, slash, digits, exponent, exponentOf, point, fraction, based, number, isUnit, escapes, quoted, quoteKind, isBit, withoutLf, twice, pragmaWord, agree, pound, Quote, wideEmoji, goesOn, name, word, annotated, hardware, identifier, numberSuffix, advance, nextToken, tokens}
 use Rattle.locality.specs.Machine.{Act, eats, halts, run, LooksAtTwo, cutBy}
 use Rattle.locality.specs.Phases as Phases
 use Rattle.locality.specs.Phases.{Seen, bits, broken, other, seeing, seenKind, Line, ofComment, ofPragma, ofAnnotation, lineKind, Phase, behindSlash, line, inside, into, closing, closed, space, emojiName, spelling, behindAt, behindDollar, wire, zeroFirst, figures, pointed, decimals, behindE, power, quote, quoteClosed, suffixed, single, nextIs, letter, figure, suffixActs, numberEnds, fractionActs, act, first, Usual}
@@ -59,8 +59,8 @@ pub no-letter : (c n : ℕ) → c < 0x61 → eqb c (letter n) ≡ false
 no-letter c n h = ne-eqb c (letter n) (λ e. omega (arith, letter-small n))
 
 -- a plain token, whose suffix would start at m
-abbrev tok : List ℕ → ℕ × List ℕ → Token
-tok m r = record { kind = r .0; suff = m; rest = r .1 }
+abbrev tok : List ℕ → ℕ × List ℕ → Piece
+tok m r = record { kind = r .0; fromSuffix = m; rest = r .1 }
 
 -- ---- what is seen of a quoted text, to its end
 unfoldable sees : Seen → List ℕ → Seen
@@ -136,7 +136,7 @@ unfolding quoteKind
 kind-seen q = by-test (q .closed) (λ h. rw h (kind-closed (q .body) false false)) (λ h. rw h (kind-open (q .body) false false))
 
 module _ (u : Letters) where
-  abbrev go : Phase → List ℕ → List ℕ → Token
+  abbrev go : Phase → List ℕ → List ℕ → Piece
   go = walk (act u)
 
   -- the states that eat while a test holds
@@ -155,9 +155,9 @@ module _ (u : Letters) where
   unfolding act
   space-walk = walk-skip space isWhitespace whitespaceKind (λ l. refl)
 
-  emoji-walk : (m l : List ℕ) → go emojiName m l ≡ tok m (invalidIdent, skip (goesOn u) l)
+  emoji-walk : (m l : List ℕ) → go emojiName m l ≡ tok m (invalidIdent, skip (goesOn (u .more) (u .emoji)) l)
   unfolding act
-  emoji-walk = walk-skip emojiName (goesOn u) invalidIdent (λ l. refl)
+  emoji-walk = walk-skip emojiName (goesOn (u .more) (u .emoji)) invalidIdent (λ l. refl)
 
   suffixed-walk : (k : ℕ) (m l : List ℕ) → go (suffixed k) m l ≡ tok m (k, skip (u .more) l)
   unfolding act
@@ -217,33 +217,33 @@ module _ (u : Letters) where
       rw (h, k) (walk-halts (act u) m (c ∷ t) a)))
 
   -- ---- names
-  name-behind : (m r : List ℕ) → nextIs (u .more) r ≡ false → go Phases.name m r ≡ tok m (cond (wideEmoji u (peek r)) (invalidIdent, skip (goesOn u) r) (ident, r))
+  name-behind : (m r : List ℕ) → nextIs (u .more) r ≡ false → go Phases.name m r ≡ tok m (cond (wideEmoji (u .emoji) (peek r)) (invalidIdent, skip (goesOn (u .more) (u .emoji)) r) (ident, r))
   unfolding act
   name-behind m [] n = walk-halts (act u) m [] refl
   name-behind m (c ∷ t) n =
-      by-test (wideEmoji u c)
+      by-test (wideEmoji (u .emoji) c)
       (λ h.
       let a : act u Phases.name (c ∷ t) ≡ eats false emojiName = rw (n, h) in
-      let g : goesOn u c ≡ true = rw h (or-true (u .more c)) in
-      rw (h, skip-more (goesOn u) c t g) (walk-eats (act u) m a ∙ emoji-walk m t))
+      let g : goesOn (u .more) (u .emoji) c ≡ true = rw h (or-true (u .more c)) in
+      rw (h, skip-more (goesOn (u .more) (u .emoji)) c t g) (walk-eats (act u) m a ∙ emoji-walk m t))
       (λ h.
       let a : act u Phases.name (c ∷ t) ≡ halts false ident = rw (n, h) in
       rw h (walk-halts (act u) m (c ∷ t) a))
 
-  name-walk : (m l : List ℕ) → go Phases.name m l ≡ tok m (name u l)
+  name-walk : (m l : List ℕ) → go Phases.name m l ≡ tok m (name (u .more) (u .emoji) l)
   unfolding act name skip
   name-walk m l =
       walk-while (act u) (λ s. Phases.name) (u .more) keep (λ s c t h. rw h) tt m l ∙ name-behind m (eat (u .more) keep tt l .1) (eat-rest (u .more) keep tt l)
 
   -- ---- where a literal ends
-  identifier-nil : identifier u [] ≡ []
+  identifier-nil : identifier (u .start) (u .more) [] ≡ []
   unfolding identifier
   identifier-nil = by-test (u .start 0) (λ h. rw (h, skip-nil (u .more))) (λ h. rw h)
 
-  abbrev ending : ℕ → List ℕ → List ℕ → Token
-  ending k m r = record { kind = k; suff = m; rest = r }
+  abbrev ending : ℕ → List ℕ → List ℕ → Piece
+  ending k m r = record { kind = k; fromSuffix = m; rest = r }
 
-  suffix-walk : (q : Phase) (k : ℕ) (m l : List ℕ) → act u q l ≡ suffixActs u k l → go q m l ≡ ending k l (identifier u l)
+  suffix-walk : (q : Phase) (k : ℕ) (m l : List ℕ) → act u q l ≡ suffixActs u k l → go q m l ≡ ending k l (identifier (u .start) (u .more) l)
   unfolding act identifier
   suffix-walk q k m [] e = walk-halts (act u) m [] e ∙ ap (ending k []) (sym identifier-nil)
   suffix-walk q k m (c ∷ t) e =
@@ -256,11 +256,11 @@ module _ (u : Letters) where
       rw h (walk-halts (act u) m (c ∷ t) a))
 
   -- a number of a kind, and what is left where its suffix starts
-  abbrev lit : ℕ × List ℕ → Token
-  lit x = ending (x .0) (x .1) (suffix u (x .1))
+  abbrev lit : ℕ × List ℕ → Piece
+  lit x = ending (x .0) (x .1) (numberSuffix (u .start) (u .more) (x .1))
 
   ends-walk : (q : Phase) (k : ℕ) (m l : List ℕ) → act u q l ≡ numberEnds u k l → go q m l ≡ lit (k, l)
-  unfolding suffix
+  unfolding numberSuffix
   ends-walk q k m l e =
       by-test (isUnit (peek l) (peek (tail l)))
       (λ h.
@@ -392,7 +392,7 @@ module _ (u : Letters) where
       by-test (eqb c 0x30) (λ h. rw h (zero-walk m l)) (λ h. rw h (decimal-walk m l))
 
   -- ---- behind @ and $
-  at-walk : (m l : List ℕ) → go behindAt m l ≡ tok m (annotated u l)
+  at-walk : (m l : List ℕ) → go behindAt m l ≡ tok m (annotated (u .start) l)
   unfolding act annotated
   at-walk m l =
       by-test (u .start (peek l))
@@ -411,34 +411,34 @@ module _ (u : Letters) where
       walk-while (act u) wire (orUnderscore isDigit) (met isDigit) (λ s c t h. rw h) any m l ∙ walk-halts (act u) m (d .1) a
 
   -- what goes on with an identifier goes on with one that holds an emoji
-  skip-both : (l : List ℕ) → skip (goesOn u) (skip (u .more) l) ≡ skip (goesOn u) l
+  skip-both : (l : List ℕ) → skip (goesOn (u .more) (u .emoji)) (skip (u .more) l) ≡ skip (goesOn (u .more) (u .emoji)) l
   skip-both [] = rw (skip-nil (u .more))
   skip-both (c ∷ t) =
       let ih = skip-both t in
       by-test (u .more c)
       (λ h.
-      let g : goesOn u c ≡ true = rw h in
-      rw (skip-more (u .more) c t h, skip-more (goesOn u) c t g) ih)
+      let g : goesOn (u .more) (u .emoji) c ≡ true = rw h in
+      rw (skip-more (u .more) c t h, skip-more (goesOn (u .more) (u .emoji)) c t g) ih)
       (λ h. rw (skip-stop (u .more) c t h))
 
-  dollar-walk : (m l : List ℕ) → go behindDollar m l ≡ tok m (hardware u l)
+  dollar-walk : (m l : List ℕ) → go behindDollar m l ≡ tok m (hardware (u .more) (u .emoji) l)
   unfolding act hardware digits
   dollar-walk m [] = walk-same (act u) m [] refl ∙ wire-walk false m []
   dollar-walk m (c ∷ t) =
-      by-test (wideEmoji u c)
+      by-test (wideEmoji (u .emoji) c)
       (λ h.
       let a : act u behindDollar (c ∷ t) ≡ eats false emojiName = rw h in
-      let g : goesOn u c ≡ true = rw h (or-true (u .more c)) in
-      rw (h, skip-both (c ∷ t), skip-more (goesOn u) c t g) (walk-eats (act u) m a ∙ emoji-walk m t))
+      let g : goesOn (u .more) (u .emoji) c ≡ true = rw h (or-true (u .more c)) in
+      rw (h, skip-both (c ∷ t), skip-more (goesOn (u .more) (u .emoji)) c t g) (walk-eats (act u) m a ∙ emoji-walk m t))
       (λ h.
       let a : act u behindDollar (c ∷ t) ≡ act u (wire false) (c ∷ t) = rw h in
       rw h (walk-same (act u) m (c ∷ t) a ∙ wire-walk false m (c ∷ t)))
 
   -- ---- quoted texts
-  abbrev quoteEnd : Seen → Quote → Token
-  quoteEnd s q = ending (seenKind (q .closed) (sees s (q .body))) (q .rest) (cond (q .closed) (identifier u (q .rest)) (q .rest))
+  abbrev quoteEnd : Seen → Quote → Piece
+  quoteEnd s q = ending (seenKind (q .closed) (sees s (q .body))) (q .rest) (cond (q .closed) (identifier (u .start) (u .more) (q .rest)) (q .rest))
 
-  shut-walk : (s : Seen) (c : ℕ) (m t : List ℕ) → eqb c 0x22 ≡ true → go (quote false s) m (c ∷ t) ≡ ending (seenKind true s) t (identifier u t)
+  shut-walk : (s : Seen) (c : ℕ) (m t : List ℕ) → eqb c 0x22 ≡ true → go (quote false s) m (c ∷ t) ≡ ending (seenKind true s) t (identifier (u .start) (u .more) t)
   unfolding act
   shut-walk s c m t h =
       let a : act u (quote false s) (c ∷ t) ≡ eats false (quoteClosed (seenKind true s)) = rw h in
@@ -481,14 +481,14 @@ module _ (u : Letters) where
 
   -- ---- the letters of `pragma`, of which those of w are still to come
   abbrev spelled : Bool → List ℕ → List ℕ → ℕ × List ℕ
-  spelled bare w l = cond (eqb (agree w l) (length w)) (pragma, skip notLf l) (cond bare (name u l) (invalidIdent, drop (agree w l) l))
+  spelled bare w l = cond (eqb (agree w l) (length w)) (pragma, skip notLf l) (cond bare (name (u .more) (u .emoji) l) (invalidIdent, drop (agree w l) l))
 
-  name-more : (c : ℕ) (t : List ℕ) → u .more c ≡ true → name u (c ∷ t) ≡ name u t
+  name-more : (c : ℕ) (t : List ℕ) → u .more c ≡ true → name (u .more) (u .emoji) (c ∷ t) ≡ name (u .more) (u .emoji) t
   unfolding name
   name-more c t h = rw (skip-more (u .more) c t h)
 
   -- where the next character is not the letter
-  unspelled : (bare : Bool) (n : ℕ) (m l : List ℕ) → eqb (peek l) (letter n) ≡ false → go (spelling bare n) m l ≡ tok m (cond bare (name u l) (invalidIdent, l))
+  unspelled : (bare : Bool) (n : ℕ) (m l : List ℕ) → eqb (peek l) (letter n) ≡ false → go (spelling bare n) m l ≡ tok m (cond bare (name (u .more) (u .emoji) l) (invalidIdent, l))
   unfolding act
   unspelled true n m l h =
       let a : act u (spelling true n) l ≡ act u Phases.name l = rw h in
@@ -519,7 +519,7 @@ module _ (u : Letters) where
       let e : eqb 0 (suc (length w)) ≡ false = ne-eqb 0 (suc (length w)) (λ q. omega arith) in
       rw (h, e) (unspelled bare n m (c ∷ t) h))
     where
-      named : (bare : Bool) → c ≡ letter n → (bare ≡ true → u .more (letter n) ≡ true) → (a : ℕ) → cond bare (name u t) (invalidIdent, drop a t) ≡ cond bare (name u (c ∷ t)) (invalidIdent, drop (suc a) (c ∷ t))
+      named : (bare : Bool) → c ≡ letter n → (bare ≡ true → u .more (letter n) ≡ true) → (a : ℕ) → cond bare (name (u .more) (u .emoji) t) (invalidIdent, drop a t) ≡ cond bare (name (u .more) (u .emoji) (c ∷ t)) (invalidIdent, drop (suc a) (c ∷ t))
       named true q i a = sym (name-more c t (ap (u .more) q ∙ i refl))
       named false q i a = refl
 
@@ -548,12 +548,12 @@ module _ (u : Letters) where
       spell false 0 (tail pragmaWord) m refl (λ h. absurd (false≢true h)) (spell-on false (λ h. absurd (false≢true h)) m) l
 
   -- ---- THE MACHINE CUTS AS THE RULES SAY
-  choose : (q p : Phase) (b : Bool) (m t : List ℕ) {v w : Token} → go q m t ≡ v → go p m t ≡ w → go (cond b q p) m t ≡ cond b v w
+  choose : (q p : Phase) (b : Bool) (m t : List ℕ) {v w : Piece} → go q m t ≡ v → go p m t ≡ w → go (cond b q p) m t ≡ cond b v w
   choose q p true m t e f = e
   choose q p false m t e f = f
 
   module _ (usual : Usual u) (profile : ℕ) where
-    word-walk : (c : ℕ) (m t : List ℕ) → go (cond (eqb profile 1 && eqb c 0x70) (spelling true 1) Phases.name) m t ≡ tok m (word u profile c t)
+    word-walk : (c : ℕ) (m t : List ℕ) → go (cond (eqb profile 1 && eqb c 0x70) (spelling true 1) Phases.name) m t ≡ tok m (word (u .more) (u .emoji) profile c t)
     unfolding word agree
     word-walk c m t =
         by-test (eqb profile 1)
@@ -575,19 +575,19 @@ module _ (u : Letters) where
         (choose _ _ (eqb c 0x40) l t (at-walk l t)
         (choose _ _ (eqb c 0x24) l t (dollar-walk l t)
         (choose _ _ (not (eqb m 0)) l t (single-walk m l t)
-        (choose _ _ (eqb c 0x22) l t (quote-walk t (bits false false) l ∙ ap (λ (k : ℕ). ending k (quoted t .rest) (cond (quoted t .closed) (identifier u (quoted t .rest)) (quoted t .rest))) (kind-seen (quoted t)))
-        (choose _ _ (wideEmoji u c) l t (emoji-walk l t) (single-walk unknown l t))))))))))
+        (choose _ _ (eqb c 0x22) l t (quote-walk t (bits false false) l ∙ ap (λ (k : ℕ). ending k (quoted t .rest) (cond (quoted t .closed) (identifier (u .start) (u .more) (quoted t .rest)) (quoted t .rest))) (kind-seen (quoted t)))
+        (choose _ _ (wideEmoji (u .emoji) c) l t (emoji-walk l t) (single-walk unknown l t))))))))))
 
     -- each token, with its counts
-    pub piece-run : (c : ℕ) (t : List ℕ) → run (act u) (first u profile c) (width c) 0 t ≡ piece u profile c t
-    unfolding piece bytes
-    piece-run c t =
-        run-walk (act u) t (first u profile c) (width c) 0 (bytes (c ∷ t)) (c ∷ t) refl (omega arith) ∙ ap (countedFrom (act u) (bytes (c ∷ t))) (advance-walk c t)
+    pub next-run : (c : ℕ) (t : List ℕ) → run (act u) (first u profile c) (width c) 0 t ≡ nextToken u profile c t
+    unfolding nextToken byteLength
+    next-run c t =
+        run-walk (act u) t (first u profile c) (width c) 0 (byteLength (c ∷ t)) (c ∷ t) refl (omega arith) ∙ ap (countedFrom (act u) (byteLength (c ∷ t))) (advance-walk c t)
 
     -- and the tokens of a text
     pub machine-tokens : (l : List ℕ) → cutBy (act u) (first u profile) l ≡ tokens u profile l
     unfolding cutBy tokens
-    machine-tokens l = ap (λ (f : ℕ → List ℕ → Tok × List ℕ). cut f l) (fun-ext (λ c. fun-ext (λ t. piece-run c t)))
+    machine-tokens l = ap (λ (f : ℕ → List ℕ → Token × List ℕ). cut f l) (fun-ext (λ c. fun-ext (λ t. next-run c t)))
 
   -- ---- it looks at two characters at most
   pub two : LooksAtTwo (act u)

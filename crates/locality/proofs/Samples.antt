@@ -10,17 +10,18 @@ use Rattle.lists.specs.Eat.{eat}
 use Rattle.unicode.specs.Ranges.{inTable}
 use Rattle.ucd.specs.Ucd.{xidStart, xidContinue, emoji}
 use Rattle.unicode.specs.Utf8.{table, behind, begins, joined, readBy, first, next, chars, width}
-use Rattle.unicode.specs.Text.{bytes, skip}
+use Rattle.unicode.specs.Text.{byteLength, skip}
 use Rattle.letters.specs.Chars.{whitespace}
 use Rattle.lexer.specs.Kinds.{marks, markIn}
-use Rattle.lexer.specs.Cut.{notLf, isDigit, isHexDigit, block, slash, digits, exponent, exponentOf, point, fraction, based, number, isUnit, quoted, withoutLf, twice, quoteKind, agree, pound, name, word, annotated, hardware, identifier, suffix, advance, piece, tokens, flat}
+use Rattle.lexer.specs.Cut.{notLf, isDigit, isHexDigit, block, slash, digits, exponent, exponentOf, point, fraction, based, number, isUnit, quoted, withoutLf, twice, quoteKind, agree, pound, name, word, annotated, hardware, identifier, numberSuffix, advance, nextToken, tokens, flat}
 use Rattle.lexer.specs.Unicode.{unicode}
-use Rattle.lexer.specs.Outcome.{tokensOf}
+use Rattle.lexer.specs.Promises.{tokensOf}
 use Rattle.locality.specs.Machine.{run, cutBy}
 use Rattle.locality.specs.Phases as Phases
 use Rattle.locality.specs.Phases.{act}
 use Rattle.tokens.specs.Members.{Member, isCounted, counted, membersBy, membersOf}
-use Rattle.locality.specs.Counted.{Run, withNewline, inserted}
+use Rattle.locality.specs.Newline.{Run, withNewline}
+use Rattle.locality.specs.Changes.{inserted}
 
 -- ---- the machine, on bytes
 abbrev cuts : ℕ → List ℕ → List ℕ
@@ -39,15 +40,15 @@ machine-samples = (refl, refl, refl, refl, refl, refl)
 
 -- ---- the counted tokens, on bytes
 abbrev item : ℕ → ℕ → ℕ → List ℕ → Member
-item k n s text = record { kind = k; len = n; suff = s; bytes = text }
+item k n s text = record { kind = k; len = n; suffix = s; bytes = text }
 
 -- `a//b` has a run of one uncounted token, and with a newline for it
 run-sample : Run 0 (0x61 ∷ 0x2F ∷ 0x2F ∷ 0x62 ∷ []) 1 4
-unfolding all pieces cut eat inTable xidStart xidContinue emoji table behind begins joined readBy first next chars width bytes skip whitespace marks markIn unicode tokensOf notLf isDigit isHexDigit block slash digits exponent exponentOf point fraction based number isUnit quoted withoutLf twice quoteKind agree pound name word annotated hardware identifier suffix advance piece tokens isCounted
+unfolding all pieces cut eat inTable xidStart xidContinue emoji table behind begins joined readBy first next chars width byteLength skip whitespace marks markIn unicode tokensOf notLf isDigit isHexDigit block slash digits exponent exponentOf point fraction based number isUnit quoted withoutLf twice quoteKind agree pound name word annotated hardware identifier numberSuffix advance nextToken tokens isCounted
 run-sample =
     record {
-      before = record { kind = 5; len = 1; suff = 0 } ∷ [];
-      run = record { kind = 1; len = 3; suff = 0 } ∷ [];
+      before = record { kind = 5; len = 1; suffix = 0 } ∷ [];
+      run = record { kind = 1; len = 3; suffix = 0 } ∷ [];
       behind = [];
       is = refl;
       some = omega arith;
@@ -57,7 +58,7 @@ run-sample =
     }
 
 clause-sample : (membersOf 0 (0x61 ∷ 0x2F ∷ 0x2F ∷ 0x62 ∷ []) ≡ item 5 1 0 (0x61 ∷ []) ∷ []) × (withNewline (0x61 ∷ 0x2F ∷ 0x2F ∷ 0x62 ∷ []) 1 4 ≡ 0x61 ∷ 0x0A ∷ [])
-unfolding all pieces cut eat inTable xidStart xidContinue emoji table behind begins joined readBy first next chars width bytes skip whitespace marks markIn unicode tokensOf notLf isDigit isHexDigit block slash digits exponent exponentOf point fraction based number isUnit quoted withoutLf twice quoteKind agree pound name word annotated hardware identifier suffix advance piece tokens isCounted counted membersBy membersOf withNewline
+unfolding all pieces cut eat inTable xidStart xidContinue emoji table behind begins joined readBy first next chars width byteLength skip whitespace marks markIn unicode tokensOf notLf isDigit isHexDigit block slash digits exponent exponentOf point fraction based number isUnit quoted withoutLf twice quoteKind agree pound name word annotated hardware identifier numberSuffix advance nextToken tokens isCounted counted membersBy membersOf withNewline
 clause-sample = (refl, refl)
 
 -- where the counted tokens change: a closed block comment behind a slash, `/` and `//**/`; a block comment that holds an LF behind a line
@@ -75,5 +76,5 @@ exceptions :
     × (membersOf 0 (0x22 ∷ []) ≡ item 58 1 1 (0x22 ∷ []) ∷ [])
     × (membersOf 0 (0x22 ∷ 0x0A ∷ []) ≡ item 58 2 2 (0x22 ∷ 0x0A ∷ []) ∷ [])
     × (membersOf 0 (0x2F ∷ 0x2F ∷ 0x0D ∷ 0x61 ∷ []) ≡ [])
-unfolding all pieces cut eat inTable xidStart xidContinue emoji table behind begins joined readBy first next chars width bytes skip whitespace marks markIn unicode tokensOf notLf isDigit isHexDigit block slash digits exponent exponentOf point fraction based number isUnit quoted withoutLf twice quoteKind agree pound name word annotated hardware identifier suffix advance piece tokens isCounted counted membersBy membersOf inserted
+unfolding all pieces cut eat inTable xidStart xidContinue emoji table behind begins joined readBy first next chars width byteLength skip whitespace marks markIn unicode tokensOf notLf isDigit isHexDigit block slash digits exponent exponentOf point fraction based number isUnit quoted withoutLf twice quoteKind agree pound name word annotated hardware identifier numberSuffix advance nextToken tokens isCounted counted membersBy membersOf inserted
 exceptions = (refl, refl, refl, refl, refl, refl, refl, refl, refl, refl, refl)

@@ -8,7 +8,7 @@ use mathlib.Core.Bool.{Bool, cond}
 use mathlib.Core.List.{List, [], _∷_, _++_}
 use lib.ListN.{length, length-append}
 use Rattle.unicode.specs.Utf8.{width}
-use Rattle.lexer.specs.Cut.{Tok}
+use Rattle.lexer.specs.Cut.{Token}
 use Rattle.locality.specs.Machine.{Act, eats, halts, run, LooksAtTwo}
 use Rattle.locality.proofs.Machine.{run-eats, run-halts, run-length, by-act}
 
@@ -27,10 +27,10 @@ module _ {Q : Type 0} (act : Q → List ℕ → Act Q) where
   Always = Swap (λ k. Unit {0})
 
   -- the machine halts where it stands
-  record Stands (q : Q) (n m : ℕ) (k : Tok) (l : List ℕ) : Type 0 where
+  record Stands (q : Q) (n m : ℕ) (k : Token) (l : List ℕ) : Type 0 where
     marks : Bool
     acts : act q l ≡ halts marks (k .kind)
-    is : k ≡ record { kind = k .kind; len = n; suff = cond marks n m }
+    is : k ≡ record { kind = k .kind; len = n; suffix = cond marks n m }
 
   module _ (ends : (q p : Q) (b : Bool) → act q [] ≡ eats b p → ⊥) where
     -- a machine that eats leaves less
@@ -38,15 +38,15 @@ module _ {Q : Type 0} (act : Q → List ℕ → Act Q) where
     less q p b n m [] e = absurd (ends q p b e)
     less q p b n m (c ∷ t) e = rw (run-eats act n m e) (omega (arith, run-length act p (n + width c) (cond b n m) t))
 
-    stands : (q : Q) (n m : ℕ) (k : Tok) (r : List ℕ) → run act q n m r ≡ (k, r) → Stands q n m k r
+    stands : (q : Q) (n m : ℕ) (k : Token) (r : List ℕ) → run act q n m r ≡ (k, r) → Stands q n m k r
     stands q n m k r h = go (act q r) refl
       where
         go : (a : Act Q) → act q r ≡ a → Stands q n m k r
-        go (eats b p) e = absurd (omega (arith, less q p b n m r e, ap (λ (z : Tok × List ℕ). length (z .1)) h))
+        go (eats b p) e = absurd (omega (arith, less q p b n m r e, ap (λ (z : Token × List ℕ). length (z .1)) h))
         go (halts b j) e =
-            let z : k ≡ record { kind = j; len = n; suff = cond b n m } = ap (λ (w : Tok × List ℕ). w .0) (sym h ∙ run-halts act r n m e) in
-            let y : k .kind ≡ j = ap (λ (w : Tok). w .kind) z in
-            record { marks = b; acts = e ∙ ap (halts b) (sym y); is = z ∙ ap (λ (w : ℕ). record { kind = w; len = n; suff = cond b n m }) (sym y) }
+            let z : k ≡ record { kind = j; len = n; suffix = cond b n m } = ap (λ (w : Token × List ℕ). w .0) (sym h ∙ run-halts act r n m e) in
+            let y : k .kind ≡ j = ap (λ (w : Token). w .kind) z in
+            record { marks = b; acts = e ∙ ap (halts b) (sym y); is = z ∙ ap (λ (w : ℕ). record { kind = w; len = n; suffix = cond b n m }) (sym y) }
 
     module _ (two : LooksAtTwo act) where
       same-two : (q : Q) (x y : ℕ) (l m : List ℕ) → act q (x ∷ y ∷ l) ≡ act q (x ∷ y ∷ m)
@@ -76,16 +76,16 @@ module _ {Q : Type 0} (act : Q → List ℕ → Act Q) where
           }
 
       -- a character that is eaten on the way to the end
-      next : {ok : ℕ → Type 0} {r s : List ℕ} → Swap ok r s → (e : List ℕ) (q p : Q) (c : ℕ) (b : Bool) (n m : ℕ) (k : Tok) → ok (k .kind) → act q (c ∷ e ++ r) ≡ eats b p →
+      next : {ok : ℕ → Type 0} {r s : List ℕ} → Swap ok r s → (e : List ℕ) (q p : Q) (c : ℕ) (b : Bool) (n m : ℕ) (k : Token) → ok (k .kind) → act q (c ∷ e ++ r) ≡ eats b p →
           run act p n m (e ++ r) ≡ (k, r) → act q (c ∷ e ++ s) ≡ eats b p
       next {r = r} w [] q p c b n m k o a z = let t = stands p n m k r z in w .last q p c b (t .marks) (k .kind) o a (t .acts)
       next {r = r} {s = s} w (d ∷ e) q p c b n m k o a z = same-two q c d (e ++ s) (e ++ r) ∙ a
 
       -- the same token before both
-      pub run-swap : {ok : ℕ → Type 0} {r s : List ℕ} → Swap ok r s → (e : List ℕ) (q : Q) (n m : ℕ) (k : Tok) → ok (k .kind) → run act q n m (e ++ r) ≡ (k, r) → run act q n m (e ++ s) ≡ (k, s)
+      pub run-swap : {ok : ℕ → Type 0} {r s : List ℕ} → Swap ok r s → (e : List ℕ) (q : Q) (n m : ℕ) (k : Token) → ok (k .kind) → run act q n m (e ++ r) ≡ (k, r) → run act q n m (e ++ s) ≡ (k, s)
       run-swap {r = r} {s = s} w [] q n m k o h =
           let t = stands q n m k r h in
-          run-halts act s n m (w .here q (t .marks) (k .kind) o (t .acts)) ∙ ap (λ (z : Tok). (z, s)) (sym (t .is))
+          run-halts act s n m (w .here q (t .marks) (k .kind) o (t .acts)) ∙ ap (λ (z : Token). (z, s)) (sym (t .is))
       run-swap {r = r} {s = s} w (c ∷ e) q n m k o h =
           let ih : (p : Q) (b : Bool) → run act p (n + width c) (cond b n m) (e ++ r) ≡ (k, r) → run act p (n + width c) (cond b n m) (e ++ s) ≡ (k, s) =
           λ p b z. run-swap w e p (n + width c) (cond b n m) k o z in
@@ -94,4 +94,4 @@ module _ {Q : Type 0} (act : Q → List ℕ → Act Q) where
           let z : run act p (n + width c) (cond b n m) (e ++ r) ≡ (k, r) = sym (run-eats act n m a) ∙ h in
           run-eats act n m (next w e q p c b (n + width c) (cond b n m) k o a z) ∙ ih p b z)
           (λ b j a.
-          absurd (omega (arith, length-append e r, ap (λ (z : Tok × List ℕ). length (z .1)) (sym (run-halts act (c ∷ e ++ r) n m a) ∙ h))))
+          absurd (omega (arith, length-append e r, ap (λ (z : Token × List ℕ). length (z .1)) (sym (run-halts act (c ∷ e ++ r) n m a) ∙ h))))

@@ -10,16 +10,16 @@ use lib.ListN.{length, length-append}
 use borrow.Author.Tests.{eqb-true}
 use Rattle.lists.proofs.Bools.{by-test}
 use Rattle.unicode.specs.Ranges.{inTable}
-use Rattle.unicode.specs.Text.{bytes, skip}
+use Rattle.unicode.specs.Text.{byteLength, skip}
 use Rattle.unicode.proofs.Text.{skip-nil, skip-more, skip-stop}
 use Rattle.letters.specs.Chars.{isWhitespace, whitespace}
 use Rattle.lexer.specs.Kinds.{whitespaceKind}
-use Rattle.lexer.specs.Cut.{Letters, Tok, advance, piece}
+use Rattle.lexer.specs.Cut.{Letters, Token, advance, nextToken}
 use Rattle.tokens.specs.Members.{isCounted}
 use Rattle.locality.proofs.Counted.{white-first}
 use Rattle.locality.proofs.Cuts.{Item, counted, Cuts, none, more, Over, over-self}
 
-pub white-uncounted : (i : List Item) (k : Tok) (w : List ℕ) → k .kind ≡ whitespaceKind → counted ((k, w) ∷ i) ≡ counted i
+pub white-uncounted : (i : List Item) (k : Token) (w : List ℕ) → k .kind ≡ whitespaceKind → counted ((k, w) ∷ i) ≡ counted i
 unfolding counted isCounted
 white-uncounted i k w h = rw h
 
@@ -57,35 +57,35 @@ white-isnt x d h n = by-test (eqb x d) (λ e. absurd (false≢true (sym n ∙ ap
 
 module _ (u : Letters) (profile : ℕ) where
   -- ---- white space in front
-  pub piece-white : (c : ℕ) (t : List ℕ) → isWhitespace c ≡ true →
-      piece u profile c t ≡ (record { kind = whitespaceKind; len = bytes (c ∷ t) - bytes (skip isWhitespace t); suff = bytes (c ∷ t) - bytes (c ∷ t) }, skip isWhitespace t)
-  unfolding piece advance whitespace inTable
-  piece-white c t h = rw (white-isnt c 0x2F h refl, h)
+  pub next-white : (c : ℕ) (t : List ℕ) → isWhitespace c ≡ true →
+      nextToken u profile c t ≡ (record { kind = whitespaceKind; len = byteLength (c ∷ t) - byteLength (skip isWhitespace t); suffix = byteLength (c ∷ t) - byteLength (c ∷ t) }, skip isWhitespace t)
+  unfolding nextToken advance whitespace inTable
+  next-white c t h = rw (white-isnt c 0x2F h refl, h)
 
   -- one token of white space, that reaches to r
   lead : {j i : List Item} {l r : List ℕ} (c : ℕ) (e : List ℕ) → isWhitespace c ≡ true → l ≡ c ∷ (e ++ r) → skip isWhitespace (e ++ r) ≡ r → Cuts u profile i r [] → counted i ≡ counted j → Over u profile j [] l
   unfolding counted
   lead {j} {i} {l} {r} c e h q s x z =
-      let k : Tok = record { kind = whitespaceKind; len = bytes (c ∷ (e ++ r)) - bytes (skip isWhitespace (e ++ r)); suff = bytes (c ∷ (e ++ r)) - bytes (c ∷ (e ++ r)) } in
-      record { new = (k, c ∷ e) ∷ i; cuts = more q (piece-white c (e ++ r) h ∙ ap (λ (y : List ℕ). (k, y)) s) x; same = white-uncounted i k (c ∷ e) refl ∙ z }
+      let k : Token = record { kind = whitespaceKind; len = byteLength (c ∷ (e ++ r)) - byteLength (skip isWhitespace (e ++ r)); suffix = byteLength (c ∷ (e ++ r)) - byteLength (c ∷ (e ++ r)) } in
+      record { new = (k, c ∷ e) ∷ i; cuts = more q (next-white c (e ++ r) h ∙ ap (λ (y : List ℕ). (k, y)) s) x; same = white-uncounted i k (c ∷ e) refl ∙ z }
 
   pub spaces : {j : List Item} {r : List ℕ} (c : ℕ) (w : List ℕ) → isWhitespace c ≡ true → White w → Cuts u profile j r [] → Over u profile j [] (c ∷ (w ++ r))
   spaces c w h x none = lead c w h refl (skip-white [] x ∙ skip-nil isWhitespace) none refl
   spaces {r = r} c w h x (more {i = i} {k = k} {c = d} {e = e} {r = t} q y rest) =
       by-test (isWhitespace d)
       (λ s.
-      let z = sym (piece-white d (e ++ t) s) ∙ y in
-      let a : whitespaceKind ≡ k .kind = ap (λ (v : Tok × List ℕ). v .0 .kind) z in
-      let b : skip isWhitespace (e ++ t) ≡ t = ap (λ (v : Tok × List ℕ). v .1) z in
+      let z = sym (next-white d (e ++ t) s) ∙ y in
+      let a : whitespaceKind ≡ k .kind = ap (λ (v : Token × List ℕ). v .0 .kind) z in
+      let b : skip isWhitespace (e ++ t) ≡ t = ap (λ (v : Token × List ℕ). v .1) z in
       let m : w ++ r ≡ (w ++ d ∷ e) ++ t = ap (λ (v : List ℕ). w ++ v) q ∙ sym (append-assoc w (d ∷ e) t) in
       lead c (w ++ d ∷ e) h (ap (λ (v : List ℕ). c ∷ v) m)
       (ap (skip isWhitespace) (append-assoc w (d ∷ e) t) ∙ skip-white (d ∷ e ++ t) x ∙ skip-more isWhitespace d (e ++ t) s ∙ b) rest (sym (white-uncounted i k (d ∷ e) (sym a))))
       (λ s. lead c w h refl (skip-white r x ∙ ap (skip isWhitespace) q ∙ skip-stop isWhitespace d (e ++ t) s ∙ sym q) (more q y rest) refl)
 
   -- the kind of a token, and what white space was eaten
-  pub kind-white : (c : ℕ) (t z : List ℕ) (k : Tok) → piece u profile c t ≡ (k, z) → k .kind ≡ whitespaceKind → isWhitespace c ≡ true
-  unfolding piece
-  kind-white c t z k h e = white-first u profile c t (ap (λ (v : Tok × List ℕ). v .0 .kind) h ∙ e)
+  pub kind-white : (c : ℕ) (t z : List ℕ) (k : Token) → nextToken u profile c t ≡ (k, z) → k .kind ≡ whitespaceKind → isWhitespace c ≡ true
+  unfolding nextToken
+  kind-white c t z k h e = white-first u profile c t (ap (λ (v : Token × List ℕ). v .0 .kind) h ∙ e)
 
   -- in front of a text
   pub over-white : {j : List Item} {v r : List ℕ} → White v → Cuts u profile j r [] → Over u profile j [] (v ++ r)

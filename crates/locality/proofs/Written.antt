@@ -10,18 +10,18 @@ use Rattle.lists.specs.All.{all}
 use Rattle.lists.proofs.All.{all-append}
 use Rattle.lists.proofs.Bools.{by-test}
 use Rattle.unicode.specs.Utf8.{chars, isScalar, encodeAll}
-use Rattle.unicode.specs.Text.{bytes}
+use Rattle.unicode.specs.Text.{byteLength}
 use Rattle.unicode.proofs.Valid.{encode-append, encode-bytes, read-all}
-use Rattle.lexer.specs.Cut.{Letters, Tok, tokens}
+use Rattle.lexer.specs.Cut.{Letters, Token, tokens}
 use Rattle.lexer.specs.Unicode.{unicode}
-use Rattle.lexer.specs.Outcome.{tokensOf}
+use Rattle.lexer.specs.Promises.{tokensOf}
 use Rattle.lexer.proofs.Shapes.{tokens-nil}
 use Rattle.tokens.specs.Members.{Member, isCounted, counted as members, membersBy, membersOf}
 use Rattle.locality.proofs.Cuts.{Item, counted, toks, Cuts, none, more, cuts-tokens, cut-length}
 
 -- ---- tokens with their bytes
 abbrev member : Item → Member
-member i = record { kind = i .0 .kind; len = i .0 .len; suff = i .0 .suff; bytes = encodeAll (i .1) }
+member i = record { kind = i .0 .kind; len = i .0 .len; suffix = i .0 .suffix; bytes = encodeAll (i .1) }
 
 unfoldable pub written : List Item → List Member
 written [] = []
@@ -36,11 +36,11 @@ module _ (u : Letters) (profile : ℕ) where
       let n : length (encodeAll (c ∷ e)) ≡ k .len = encode-bytes (c ∷ e) (b .0) ∙ sym (cut-length u profile c e r k x) in
       let ih : members (drop (k .len) (encodeAll (c ∷ e) ++ encodeAll r)) (toks i) ≡ written (counted i) = rw (drop-at (encodeAll (c ∷ e)) (encodeAll r) (k .len) n) (cuts-bytes rest (b .1)) in
       rw (h, encode-append (c ∷ e) r)
-      (by-test (isCounted (k .kind)) (λ t. rw (t, members) (ap₂ (λ (y : List ℕ) (z : List Member). record { kind = k .kind; len = k .len; suff = k .suff; bytes = y } ∷ z) (take-at (encodeAll (c ∷ e)) (encodeAll r) (k .len) n) ih)) (λ t. rw (t, members) ih))
+      (by-test (isCounted (k .kind)) (λ t. rw (t, members) (ap₂ (λ (y : List ℕ) (z : List Member). record { kind = k .kind; len = k .len; suffix = k .suffix; bytes = y } ∷ z) (take-at (encodeAll (c ∷ e)) (encodeAll r) (k .len) n) ih)) (λ t. rw (t, members) ih))
 
 pub counted-of : (profile : ℕ) {i : List Item} {l : List ℕ} → Cuts unicode profile i l [] → all isScalar l ≡ true → membersOf profile (encodeAll l) ≡ written (counted i)
 unfolding membersOf membersBy tokensOf
 counted-of profile {i} {l} c h =
     let t : tokens unicode profile (chars (encodeAll l)) ≡ toks i =
-    ap (tokens unicode profile) (read-all l h) ∙ cuts-tokens unicode profile c ∙ ap (λ (y : List Tok). toks i ++ y) (tokens-nil unicode profile) ∙ append-nil (toks i) in
+    ap (tokens unicode profile) (read-all l h) ∙ cuts-tokens unicode profile c ∙ ap (λ (y : List Token). toks i ++ y) (tokens-nil unicode profile) ∙ append-nil (toks i) in
     rw t (cuts-bytes unicode profile c h)

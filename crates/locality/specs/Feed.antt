@@ -4,7 +4,7 @@ use Prim.Native.Nat.{ℕ, _+_}
 use mathlib.Core.Bool.{cond}
 use mathlib.Core.List.{List, [], _∷_, _++_}
 use Rattle.unicode.specs.Utf8.{width}
-use Rattle.lexer.specs.Cut.{Tok}
+use Rattle.lexer.specs.Cut.{Token}
 use Rattle.locality.specs.Machine.{Act, eats, halts, run, cutBy}
 
 -- between two characters
@@ -18,26 +18,26 @@ pub data State (Q : Type 0) : Type 0 where
 
 module _ {Q : Type 0} (act : Q → List ℕ → Act Q) (first : ℕ → Q) where
   -- one character more: what is handed out, and the state behind it
-  unfoldable pub feed : State Q → ℕ → List Tok × State Q
+  unfoldable pub feed : State Q → ℕ → List Token × State Q
   feed idle c = ([], busy (first c) (width c) 0)
   feed (busy q n m) c = ([], held q n m c)
   feed (held q n m x) c =
       elim (act q (x ∷ c ∷ [])) [
         | eats b p ↦ ([], held p (n + width x) (cond b n m) c)
-        | halts b k ↦ (record { kind = k; len = n; suff = cond b n m } ∷ [], held (first x) (width x) 0 c)
+        | halts b k ↦ (record { kind = k; len = n; suffix = cond b n m } ∷ [], held (first x) (width x) 0 c)
       ]
 
   -- a part of the text
-  unfoldable pub feeds : State Q → List ℕ → List Tok × State Q
+  unfoldable pub feeds : State Q → List ℕ → List Token × State Q
   feeds x [] = ([], x)
   feeds x (c ∷ l) = let r = feed x c in let s = feeds (r .1) l in (r .0 ++ s .0, s .1)
 
   -- the tokens that are still to come, if l is what is still to come
-  unfoldable pub due : State Q → List ℕ → List Tok
+  unfoldable pub due : State Q → List ℕ → List Token
   due idle l = cutBy act first l
   due (busy q n m) l = let r = run act q n m l in r .0 ∷ cutBy act first (r .1)
   due (held q n m x) l = let r = run act q n m (x ∷ l) in r .0 ∷ cutBy act first (r .1)
 
   -- at the end of the text
-  abbrev pub finish : State Q → List Tok
+  abbrev pub finish : State Q → List Token
   finish x = due x []

@@ -1,5 +1,6 @@
 pub mod Machine
 pub mod Phases
-pub mod Counted
+pub mod Newline
+pub mod Changes
 pub mod Cutter
 pub mod Feed

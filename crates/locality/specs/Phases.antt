@@ -126,7 +126,7 @@ module _ (u : Letters) where
   abbrev pub nameActs : List ℕ → Act Phase
   nameActs l =
       cond (nextIs (u .more) l) (eats false name)
-      (cond (nextIs (wideEmoji u) l) (eats false emojiName) (halts false ident))
+      (cond (nextIs (wideEmoji (u .emoji)) l) (eats false emojiName) (halts false ident))
 
   -- ---- where a literal of kind k may have a suffix; where that is no unit
   abbrev pub suffixActs : ℕ → List ℕ → Act Phase
@@ -165,12 +165,12 @@ module _ (u : Letters) where
   act closed l = halts false blockComment
   act space l = cond (nextIs isWhitespace l) (eats false space) (halts false whitespaceKind)
   act name l = nameActs l
-  act emojiName l = cond (nextIs (goesOn u) l) (eats false emojiName) (halts false invalidIdent)
+  act emojiName l = cond (nextIs (goesOn (u .more) (u .emoji)) l) (eats false emojiName) (halts false invalidIdent)
   act (spelling bare n) l =
       cond (eqb (peek l) (letter n)) (eats false (cond (leb 5 n) (line ofPragma) (spelling bare (suc n))))
       (cond bare (nameActs l) (halts false invalidIdent))
   act behindAt l = cond (u .start (peek l)) (lineActs ofAnnotation l) (halts false atSign)
-  act behindDollar l = cond (nextIs (wideEmoji u) l) (eats false emojiName) (wireActs false l)
+  act behindDollar l = cond (nextIs (wideEmoji (u .emoji)) l) (eats false emojiName) (wireActs false l)
   act (wire any) l = wireActs any l
   act zeroFirst l =
       cond (eqb (peek l) 0x62) (eats false (figures 0 false))
@@ -204,7 +204,7 @@ module _ (u : Letters) where
       (cond (eqb c 0x24) behindDollar
       (cond (not (eqb m 0)) (single m)
       (cond (eqb c 0x22) (quote false (bits false false))
-      (cond (wideEmoji u c) emojiName
+      (cond (wideEmoji (u .emoji) c) emojiName
       (single unknown))))))))))
 
 -- ---- what is asked of the letters: those of `pragma` go on with an identifier; an LF and a CR neither begin one nor go on with one; and

@@ -14,7 +14,7 @@ rules-out-saturating e = omega arith
 
 -- Char in double quotes; any character in RawByteStr; \u{..} in ByteStr; the r of `br` in the prefix
 pub rules-out-char-in-double-quotes : Answered (testedMode inDoubleQuotes charMode) done 1 → ⊥
-unfolding inDoubleQuotes isSingle
+unfolding inDoubleQuotes isRaw
 rules-out-char-in-double-quotes a = let z : _≡_ {A = ℕ} 1 0 = a .also-is in omega arith
 
 pub rules-out-raw-not-ascii : Answered (testedMode charactersShouldBeAscii rawByteStrMode) done 0 → ⊥

@@ -1,12 +1,12 @@
 -- The tests on a mode and on an error, as `search` takes the laws.
 -- Assumes nothing.
 use Prim.Native.Nat.{ℕ, _≤_, _<_}
-use mathlib.Core.Path.{_≡_, ap}
-use mathlib.Core.Bool.{Bool, cond, not}
+use mathlib.Core.Path.{_≡_}
+use mathlib.Core.Bool.{Bool, cond}
 use lib.Dec.{ltb}
 use borrow.Author.Tests.{lt-ltb, le-ltb, lt-leb, le-leb}
 use Rattle.text.specs.Answer.{Answered, done, unknownSelector, _andThen_}
-use Rattle.modes.specs.Modes.{checkMode, isSingle, inDoubleQuotes, testedMode}
+use Rattle.modes.specs.Modes.{checkMode, testedMode}
 use Rattle.modes.specs.Errors.{fatal}
 
 module _ (mode : ℕ) (x : ℕ × ℕ) {number also : ℕ} where
@@ -19,10 +19,6 @@ module _ (mode : ℕ) (x : ℕ × ℕ) {number also : ℕ} where
 -- the answer of a test, by the bool that a function gave
 pub tested : (p : ℕ → Bool) (mode : ℕ) {b : Bool} {number also : ℕ} → b ≡ p mode → Answered (checkMode mode andThen (done, cond b 1 0)) number also → Answered (testedMode p mode) number also
 tested p mode e a = rw (← e) a
-
-pub quoted : (mode : ℕ) {b : Bool} → b ≡ isSingle mode → not b ≡ inDoubleQuotes mode
-unfolding inDoubleQuotes
-quoted mode e = ap not e
 
 module _ (e : ℕ) {number also : ℕ} where
   pub fatal-below : e < 1 → number ≡ unknownSelector → also ≡ 0 → Answered (fatal e) number also

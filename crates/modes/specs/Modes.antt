@@ -1,6 +1,6 @@
 -- The modes, 0 to 6, in the order of `Mode`, and the tests on them.
 -- Assumes nothing.
-use mathlib.Core.Bool.{Bool, cond, not, _||_}
+use mathlib.Core.Bool.{Bool, cond, _||_}
 use Prim.Native.Nat.{ℕ}
 use lib.Dec.{eqb, ltb}
 use Rattle.text.specs.Answer.{done, unknownSelector, _andThen_}
@@ -37,9 +37,6 @@ checkMode m = cond (knownMode m) (done, 0) (unknownSelector, 0)
 unfoldable pub isSingle : ℕ → Bool
 isSingle m = eqb m charMode || eqb m byteMode
 
-unfoldable pub inDoubleQuotes : ℕ → Bool
-inDoubleQuotes m = not (isSingle m)
-
 unfoldable pub charactersShouldBeAscii : ℕ → Bool
 charactersShouldBeAscii m = eqb m byteMode || (eqb m bitStrMode || (eqb m byteStrMode || eqb m rawByteStrMode))
 
@@ -52,6 +49,10 @@ hasPrefix m = eqb m byteMode || (eqb m byteStrMode || eqb m rawByteStrMode)
 
 unfoldable pub isRaw : ℕ → Bool
 isRaw m = eqb m rawStrMode || eqb m rawByteStrMode
+
+-- Str, BitStr and ByteStr, raw or not
+unfoldable pub inDoubleQuotes : ℕ → Bool
+inDoubleQuotes m = eqb m strMode || (eqb m bitStrMode || (eqb m byteStrMode || isRaw m))
 
 -- what a test on a mode answers: 1 for yes, 0 for no; of the prefix, its length
 abbrev pub testedMode : (ℕ → Bool) → ℕ → ℕ × ℕ

@@ -1,4 +1,4 @@
-// The places of the errors and warnings in `EscapeError`, from 1.
+// The places of the errors and warnings in `EscapeError`, from 1. The tenth, OutOfRangeHexEscape, is never given and has no name here.
 pub const ZERO_CHARS: u32 = 1;
 
 pub const MORE_THAN_ONE_CHAR: u32 = 2;
@@ -16,9 +16,6 @@ pub const ESCAPE_ONLY_CHAR: u32 = 7;
 pub const TOO_SHORT_HEX_ESCAPE: u32 = 8;
 
 pub const INVALID_CHAR_IN_HEX_ESCAPE: u32 = 9;
-
-// Never given.
-pub const OUT_OF_RANGE_HEX_ESCAPE: u32 = 10;
 
 pub const NO_BRACE_IN_UNICODE_ESCAPE: u32 = 11;
 

@@ -85,6 +85,22 @@ pub fn is_raw(mode: u32) -> bool
     mode == RAW_BYTE_STR
 }
 
+// Str, BitStr and ByteStr, raw or not.
+fn is_quoted(mode: u32) -> bool
+    ensures { λ r. ⌜ r ≡ inDoubleQuotes mode ⌝ }
+{
+    if mode == STR {
+        return true;
+    }
+    if mode == BIT_STR {
+        return true;
+    }
+    if mode == BYTE_STR {
+        return true;
+    }
+    is_raw(mode)
+}
+
 fn yes_or_no(yes: bool) -> Answer
     ensures { λ r. ⌜ Answered (done, cond yes 1 0) (r .number) (r .also) ⌝ }
 {
@@ -113,7 +129,7 @@ fn if_known(mode: u32, yes: bool) -> Answer
 pub fn in_double_quotes(mode: u32) -> Answer
     ensures { λ r. ⌜ Answered (testedMode inDoubleQuotes mode) (r .number) (r .also) ⌝ }
 {
-    if_known(mode, !is_single(mode))
+    if_known(mode, is_quoted(mode))
 }
 
 pub fn characters_should_be_ascii(mode: u32) -> Answer

@@ -9,7 +9,7 @@ use native.Mathlib.Omega.{arith}
 use lib.Dec.{T, eqb, leb, eqb→eq}
 use lib.ListN.{length, getD}
 use borrow.Author.Tests.{le-leb, lt-leb, leb-true, ne-eqb}
-use Rattle.lists.specs.Values.{valuesFrom}
+use Rattle.lists.specs.Steps.{valuesFrom}
 use Rattle.lists.proofs.Bools.{by-test, both, or-true, on-cond}
 use Rattle.lists.proofs.Values.{values-at}
 use Rattle.unicode.proofs.Rows.{every, each}

@@ -10,17 +10,17 @@ use Rattle.lists.specs.All.{Each}
 use Rattle.lists.proofs.Cut.{by-length}
 use Rattle.text.specs.Answer.{done, longest, checkCut}
 use Rattle.text.proofs.Checks.{cut-accepted}
-use Rattle.lexer.specs.Cut.{Tok}
+use Rattle.lexer.specs.Cut.{Token}
 use Rattle.tokens.specs.Members.{isCounted, memberOf, counted, membersBy, membersOf}
 use Rattle.renewal.specs.Key.{keyOf, keyBy, keyOfText}
-use Rattle.renewal.specs.Rules.{Ruled, Cutter}
+use Rattle.renewal.specs.Rules.{Ruled, Keyable}
 use Rattle.renewal.proofs.Prefix.{keys-once, ruled-told}
 use Rattle.renewal.proofs.Runs.{key-few-by}
-use Rattle.renewal.proofs.Cutter.{profile-cutter}
+use Rattle.renewal.proofs.Keyable.{profile-keyable}
 
-module _ {cutter : List ℕ → List Tok} (cuts : Cutter cutter) where
+module _ {cutter : List ℕ → List Token} (cuts : Keyable cutter) where
   -- ---- every member of a text obeys the rules
-  ruled-cons : (s : List ℕ) (t : Tok) (ts : List Tok) → (isCounted (t .kind) ≡ true → Ruled (memberOf s t)) → Each Ruled (counted (drop (t .len) s) ts) → Each Ruled (counted s (t ∷ ts))
+  ruled-cons : (s : List ℕ) (t : Token) (ts : List Token) → (isCounted (t .kind) ≡ true → Ruled (memberOf s t)) → Each Ruled (counted (drop (t .len) s) ts) → Each Ruled (counted s (t ∷ ts))
   unfolding counted
   ruled-cons s t ts r rs = go (isCounted (t .kind)) refl
     where
@@ -50,8 +50,8 @@ pub exactly-when : (profile : ℕ) (s s′ : List ℕ) → checkCut s profile .0
     (keyOfText profile s ≡ keyOfText profile s′ → membersOf profile s ≡ membersOf profile s′) × (membersOf profile s ≡ membersOf profile s′ → keyOfText profile s ≡ keyOfText profile s′)
 unfolding keyOfText membersOf keyBy
 exactly-when profile s s′ h h′ =
-    exactly-when-by (profile-cutter profile) s s′ (cut-accepted s profile h .1 .short) (cut-accepted s′ profile h′ .1 .short)
+    exactly-when-by (profile-keyable profile) s s′ (cut-accepted s profile h .1 .short) (cut-accepted s′ profile h′ .1 .short)
 
 pub key-few : (profile : ℕ) (s : List ℕ) → length (keyOfText profile s) ≤ 11 * length s
 unfolding keyOfText membersOf keyBy
-key-few profile s = key-few-by (profile-cutter profile) s
+key-few profile s = key-few-by (profile-keyable profile) s

@@ -7,7 +7,7 @@ pub mod Runs
 pub mod Entering
 pub mod Walking
 pub mod Marks
-pub mod Cutter
+pub mod Keyable
 pub mod Exactly
 pub mod Whole
 pub mod RulesOut

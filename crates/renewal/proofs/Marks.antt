@@ -11,7 +11,7 @@ use Rattle.lists.proofs.Bools.{by-test, both, on-cond}
 use Rattle.unicode.specs.Text.{skip}
 use Rattle.letters.specs.Chars.{isWhitespace}
 use Rattle.lexer.specs.Kinds.{marks, markIn, isLiteral}
-use Rattle.lexer.specs.Cut.{Letters, Token, peek, isDigit, block, slash, digits, quoted, agree, pragmaWord, pound, wideEmoji, name, word, annotated, hardware, advance}
+use Rattle.lexer.specs.Cut.{Letters, Piece, peek, isDigit, block, slash, digits, quoted, agree, pragmaWord, pound, wideEmoji, name, word, annotated, hardware, advance}
 use Rattle.lexer.proofs.Shapes.{number-part, quote-listed}
 use Rattle.renewal.specs.Key.{isMark}
 use Rattle.renewal.specs.Rules.{byteIn, ownBytes}
@@ -47,22 +47,22 @@ mark-own (m ∷ ms) c h n =
     (λ e. rw e (mark-own ms c (b .1) (rw e at n)))
 
 -- ---- a token that is one byte, its own
-pub record Own (c : ℕ) (t : List ℕ) (a : Token) : Type 0 where
+pub record Own (c : ℕ) (t : List ℕ) (a : Piece) : Type 0 where
   pub rest : a .rest ≡ t
   pub bytes : ownBytes (a .kind) ≡ c ∷ []
   pub small : c < 0x80
 
-abbrev Marked : ℕ → List ℕ → Token → Type 0
+abbrev Marked : ℕ → List ℕ → Piece → Type 0
 Marked c t a = isMark (a .kind) ≡ true → Own c t a
 
 -- with no suffix start
 abbrev Part : ℕ → List ℕ → ℕ × List ℕ → Type 0
-Part c t r = Marked c t (record { kind = r .0; suff = c ∷ t; rest = r .1 })
+Part c t r = Marked c t (record { kind = r .0; fromSuffix = c ∷ t; rest = r .1 })
 
-never : {c : ℕ} {t : List ℕ} {a : Token} → isMark (a .kind) ≡ false → Marked c t a
+never : {c : ℕ} {t : List ℕ} {a : Piece} → isMark (a .kind) ≡ false → Marked c t a
 never h e = absurd (false≢true (sym h ∙ e))
 
-literal-mark : {c : ℕ} {t : List ℕ} {a : Token} → isLiteral (a .kind) ≡ true → Marked c t a
+literal-mark : {c : ℕ} {t : List ℕ} {a : Piece} → isLiteral (a .kind) ≡ true → Marked c t a
 literal-mark {a = a} h =
     let k = a .kind in
     let l = leb-true 40 k (both (leb 40 k) (leb k 61 && not (eqb k 45)) h .0) in
@@ -81,21 +81,21 @@ unfolding pound
 pound-mark c t = on-cond (Part c t) (eqb (agree pragmaWord t) 6) (never refl) (never refl)
 
 module _ (u : Letters) where
-  word-mark : (profile c : ℕ) (t : List ℕ) → Part c t (word u profile c t)
+  word-mark : (profile c : ℕ) (t : List ℕ) → Part c t (word (u .more) (u .emoji) profile c t)
   unfolding word name
   word-mark profile c t =
       on-cond (Part c t) (eqb profile 1 && eqb (agree pragmaWord (c ∷ t)) 6) (never refl)
-      (on-cond (Part c t) (wideEmoji u (peek (skip (u .more) t))) (never refl) (never refl))
+      (on-cond (Part c t) (wideEmoji (u .emoji) (peek (skip (u .more) t))) (never refl) (never refl))
 
-  annotated-mark : (c : ℕ) (t : List ℕ) → c ≡ 0x40 → Part c t (annotated u t)
+  annotated-mark : (c : ℕ) (t : List ℕ) → c ≡ 0x40 → Part c t (annotated (u .start) t)
   unfolding annotated ownBytes byteIn
   annotated-mark c t e =
       on-cond (Part c t) (u .start (peek t)) (never refl) (λ m. rw e (record { rest = refl; bytes = refl; small = omega arith }))
 
-  hardware-mark : (c : ℕ) (t : List ℕ) → Part c t (hardware u t)
+  hardware-mark : (c : ℕ) (t : List ℕ) → Part c t (hardware (u .more) (u .emoji) t)
   unfolding hardware
   hardware-mark c t =
-      on-cond (Part c t) (wideEmoji u (peek t)) (never refl) (never (on-cond (λ (k : ℕ). isMark k ≡ false) (digits isDigit t .0) refl refl))
+      on-cond (Part c t) (wideEmoji (u .emoji) (peek t)) (never refl) (never (on-cond (λ (k : ℕ). isMark k ≡ false) (digits isDigit t .0) refl refl))
 
   pub advance-mark : (profile c : ℕ) (t : List ℕ) → Marked c t (advance u profile c t)
   unfolding advance
@@ -116,5 +116,5 @@ module _ (u : Letters) where
       (by-test (eqb m 0)
       (λ h. rw h
       (on-cond P (eqb c 0x22) (literal-mark (quote-listed (quoted t)))
-      (on-cond P (wideEmoji u c) (never refl) (never refl))))
+      (on-cond P (wideEmoji (u .emoji) c) (never refl) (never refl))))
       (λ h. rw h (λ k. let o = mark-own marks c all-own h in record { rest = refl; bytes = o .1; small = o .0 })))))))))))

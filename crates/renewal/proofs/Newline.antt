@@ -2,17 +2,22 @@
 -- Assumes nothing.
 use Prim.Native.Nat.{ℕ, _≤_}
 use native.Mathlib.Omega.{arith}
-use mathlib.Core.Path.{_≡_, ap}
+use mathlib.Core.Path.{_≡_, refl, ap, sym, _∙_}
+use mathlib.Core.Bool.{false}
 use mathlib.Core.List.{List}
-use lib.ListN.{length}
-use borrow.Author.Tests.{lt-ltb}
+use lib.ListN.{length, take}
+use borrow.Author.Tests.{lt-ltb, le-ltb, eq-eqb}
 use Rattle.unicode.specs.Utf8.{WellFormed}
 use Rattle.text.specs.Answer.{done, longest, checkCut}
 use Rattle.text.proofs.Checks.{cut-accepted, not-refused}
-use Rattle.locality.specs.Counted.{Run, withNewline}
+use Rattle.locality.specs.Newline.{Run, withNewline}
 use Rattle.locality.proofs.Clause.{newline-shorter, newline-clause}
 use Rattle.tokens.specs.Members.{membersOf}
+use Rattle.lists.proofs.Bools.{on-cond}
+use lib.Dec.{ltb}
 use Rattle.renewal.specs.Key.{keyOf, keyOfText}
+use Rattle.renewal.specs.Promises.{answerOf, Keyed}
+use Rattle.renewal.proofs.Whole.{done-accepted, done-written}
 
 -- where the counted tokens are the same, the keys are: each corollary of `locality` on what may change speaks of the key
 pub same-key : (profile : ℕ) (s s′ : List ℕ) → membersOf profile s ≡ membersOf profile s′ → keyOfText profile s ≡ keyOfText profile s′
@@ -34,3 +39,31 @@ newline-key profile {s} {from} {to} h r =
     let a = cut-accepted s profile h .1 in
     let c = newline-clause profile (a .good) r in
     same-accepted profile s (withNewline s from to) h (c .0) (omega (arith, newline-shorter profile r, a .short)) (c .1)
+
+-- what a call that is done tells: the length of the key
+done-length : {s : List ℕ} {profile : ℕ} {key : List ℕ} {a : ℕ} {k : List ℕ} → Keyed s profile key done a k → a ≡ length (keyOfText profile s)
+unfolding answerOf
+done-length {s} {profile} {key} p =
+    let c = eq-eqb (checkCut s profile .0) done (done-accepted p) in
+    let m = length (keyOfText profile s) in
+    (rw c at (p .answer .also-is)) ∙ on-cond (λ (r : ℕ × ℕ). r .1 ≡ m) (ltb (length key) m) refl refl
+
+-- THE NEWLINE CLAUSE on what two calls have written: where the one on the text is done, the one on the new text is done too in any room that
+-- the key has, and has written the same key
+pub newline-written : {s : List ℕ} {profile from to : ℕ} {key key′ : List ℕ} {a n b : ℕ} {k k′ : List ℕ} → Keyed s profile key done a k → Run profile s from to →
+    Keyed (withNewline s from to) profile key′ n b k′ → a ≤ length key′ → (n ≡ done) × (b ≡ a) × (take b k′ ≡ take a k)
+unfolding answerOf
+newline-written {s} {profile} {from} {to} {key} {key′} {a} {n} {b} {k} {k′} p r q l =
+    let w = newline-key profile (done-accepted p) r in
+    let e : n ≡ done = told .0 in
+    let q′ : Keyed (withNewline s from to) profile key′ done b k′ = rw e at q in
+    (e, told .1, done-written q′ ∙ w .1 ∙ sym (done-written p))
+  where
+    told : (n ≡ done) × (b ≡ a)
+    told =
+        let w = newline-key profile (done-accepted p) r in
+        let c = eq-eqb (checkCut (withNewline s from to) profile .0) done (w .0) in
+        let m = length (keyOfText profile (withNewline s from to)) in
+        let h : m ≡ a = ap length (w .1) ∙ sym (done-length p) in
+        let t : ltb (length key′) m ≡ false = le-ltb (length key′) m (omega (arith, h, l)) in
+        (rw (c, t) at (q .answer .number-is), (rw (c, t) at (q .answer .also-is)) ∙ h)

@@ -13,16 +13,16 @@ use Rattle.lists.specs.Eat.{eat}
 use Rattle.unicode.specs.Ranges.{inTable}
 use Rattle.ucd.specs.Ucd.{xidStart, xidContinue, emoji}
 use Rattle.unicode.specs.Utf8.{table, behind, begins, joined, readBy, first, next, chars, width, goodBytes, validUpTo}
-use Rattle.unicode.specs.Text.{bytes, skip}
+use Rattle.unicode.specs.Text.{byteLength, skip}
 use Rattle.text.specs.Answer.{done, checkText, checkCut}
 use Rattle.letters.specs.Chars.{whitespace}
 use Rattle.lexer.specs.Kinds.{marks, markIn}
-use Rattle.lexer.specs.Cut.{notLf, isDigit, isHexDigit, block, slash, digits, exponent, exponentOf, point, fraction, based, number, isUnit, quoted, quoteKind, agree, pound, name, word, annotated, hardware, identifier, suffix, advance, piece, tokens}
+use Rattle.lexer.specs.Cut.{notLf, isDigit, isHexDigit, block, slash, digits, exponent, exponentOf, point, fraction, based, number, isUnit, quoted, quoteKind, agree, pound, name, word, annotated, hardware, identifier, numberSuffix, advance, nextToken, tokens}
 use Rattle.lexer.specs.Unicode.{unicode}
-use Rattle.lexer.specs.Outcome.{tokensOf}
+use Rattle.lexer.specs.Promises.{tokensOf}
 use Rattle.tokens.specs.Members.{isCounted, counted, membersBy, membersOf}
-use Rattle.renewal.specs.Key.{bodyLength, lowBytes, nextText, texts, held, encode, keyOf, keyOfText}
-use Rattle.renewal.specs.Outcome.{answerOf, keyed, Keyed}
+use Rattle.renewal.specs.Key.{bodyLength, lowBytes, nextText, texts, encode, keyOf, keyOfText}
+use Rattle.renewal.specs.Promises.{answerOf, keyed, Keyed}
 
 -- ---- texts: x=0b1;//t and a semicolon, a comma, a semicolon behind a space, x
 abbrev sample : List ℕ
@@ -61,7 +61,7 @@ leaves :
     × (Only spaced room 0 1 (0x0A ∷ 7 ∷ 7 ∷ []))
     × (Only x room 4 7 room)
     × (keyOfText 0 sample ≡ sampleKey)
-unfolding all pieces cut eat inTable xidStart xidContinue emoji table behind begins joined readBy first next chars width goodBytes validUpTo bytes skip checkText checkCut whitespace marks markIn unicode tokensOf notLf isDigit isHexDigit block slash digits exponent exponentOf point fraction based number isUnit quoted quoteKind agree pound name word annotated hardware identifier suffix advance piece tokens isCounted counted membersBy membersOf bodyLength nextText texts held encode keyOf keyOfText lowBytes flatten answerOf keyed
+unfolding all pieces cut eat inTable xidStart xidContinue emoji table behind begins joined readBy first next chars width goodBytes validUpTo byteLength skip checkText checkCut whitespace marks markIn unicode tokensOf notLf isDigit isHexDigit block slash digits exponent exponentOf point fraction based number isUnit quoted quoteKind agree pound name word annotated hardware identifier numberSuffix advance nextToken tokens isCounted counted membersBy membersOf bodyLength nextText texts encode keyOf keyOfText lowBytes flatten answerOf keyed
 leaves = ((refl, refl), (refl, refl), (refl, refl), (refl, refl), refl)
 
 -- ---- THE SAMPLE: the 22 bytes of x=0b1;//t
@@ -71,13 +71,13 @@ sample-key = leaves .4
 -- ---- the same key for all texts
 pub rules-out-same-key : {n a m b : ℕ} {k : List ℕ} → Keyed semicolon 0 room n a k → Keyed comma 0 room m b k → ⊥
 rules-out-same-key p q =
-    let e : _≡_ {A = ℕ} 0x0A 0x0B = ap (λ (l : List ℕ). getD l 0 0) (sym (leaves .0 .1) ∙ sym (p .bytes) ∙ q .bytes ∙ leaves .1 .1) in omega arith
+    let e : _≡_ {A = ℕ} 0x0A 0x0B = ap (λ (l : List ℕ). getD l 0 0) (sym (leaves .0 .1) ∙ sym (p .key-is) ∙ q .key-is ∙ leaves .1 .1) in omega arith
 
 -- the text itself as key: of two texts that share a key it would make two
 pub rules-out-text-as-key : {n a m b : ℕ} → Keyed semicolon 0 room n a (0x3B ∷ 7 ∷ 7 ∷ []) → Keyed spaced 0 room m b (0x20 ∷ 0x3B ∷ 7 ∷ []) → ⊥
 rules-out-text-as-key p q =
     let e : _≡_ {A = ℕ} 0x3B 0x20 =
-    ap (λ (l : List ℕ). getD l 0 0) (p .bytes ∙ leaves .0 .1 ∙ sym (leaves .2 .1) ∙ sym (q .bytes)) in omega arith
+    ap (λ (l : List ℕ). getD l 0 0) (p .key-is ∙ leaves .0 .1 ∙ sym (leaves .2 .1) ∙ sym (q .key-is)) in omega arith
 
 -- a last text record padded to sixteen bytes, or any other need than that of the key
 pub rules-out-other-need : {n a : ℕ} {k : List ℕ} → Keyed x 0 room n a k → (n ≡ 4) × (a ≡ 7)
@@ -91,10 +91,10 @@ rules-out-refusing p = p .answer .number-is ∙ ap (λ (r : ℕ × ℕ). r .0) (
 -- nothing written
 pub rules-out-writing-nothing : {n a : ℕ} → Keyed semicolon 0 room n a room → ⊥
 rules-out-writing-nothing p =
-    let e : _≡_ {A = ℕ} 7 0x0A = ap (λ (l : List ℕ). getD l 0 0) (p .bytes ∙ leaves .0 .1) in omega arith
+    let e : _≡_ {A = ℕ} 7 0x0A = ap (λ (l : List ℕ). getD l 0 0) (p .key-is ∙ leaves .0 .1) in omega arith
 
 -- a refusal that writes, at any call
 pub rules-out-refusal-writes : {s : List ℕ} {profile : ℕ} {key : List ℕ} {n a : ℕ} {k : List ℕ} → Keyed s profile key n a k → (n ≡ done → ⊥) → k ≡ key
 unfolding keyed
 rules-out-refusal-writes {s} {profile} {key} p h =
-    p .bytes ∙ rw (ne-eqb (answerOf s profile (length key) .0) done (λ e. h (p .answer .number-is ∙ e)))
+    p .key-is ∙ rw (ne-eqb (answerOf s profile (length key) .0) done (λ e. h (p .answer .number-is ∙ e)))

@@ -9,41 +9,41 @@ use lib.Dec.{eqb}
 use lib.ListN.{length, take, drop, length-append, length-drop}
 use lib.Seq.{length-take-le, drop-drop}
 use Rattle.lists.proofs.Cut.{by-length}
-use Rattle.lexer.specs.Cut.{Tok, total}
+use Rattle.lexer.specs.Cut.{Token, total}
 use Rattle.tokens.specs.Members.{isCounted, memberOf, counted, membersBy}
-use Rattle.renewal.specs.Key.{noBody, bodyLength, held, encode, keyOf, keyBy}
-use Rattle.renewal.specs.Rules.{First, Cutter}
+use Rattle.renewal.specs.Key.{noBody, bodyLength, encode, keyOf, keyBy}
+use Rattle.renewal.specs.Rules.{First, Keyable}
 use Rattle.renewal.specs.Steps.{member, entry, entries}
 use Rattle.renewal.proofs.Writing.{entry-few}
 
 -- ---- one token of the key
-key-cons : (s : List ℕ) (t : Tok) (ts : List Tok) → t .len ≤ length s → eqb (bodyLength (t .kind)) noBody ≡ not (isCounted (t .kind)) →
-    keyOf (counted s (t ∷ ts)) ≡ entry (member (t .kind) (t .suff) (take (t .len) s)) ++ keyOf (counted (drop (t .len) s) ts)
+key-cons : (s : List ℕ) (t : Token) (ts : List Token) → t .len ≤ length s → eqb (bodyLength (t .kind)) noBody ≡ not (isCounted (t .kind)) →
+    keyOf (counted s (t ∷ ts)) ≡ entry (member (t .kind) (t .suffix) (take (t .len) s)) ++ keyOf (counted (drop (t .len) s) ts)
 unfolding counted keyOf entry
 key-cons s t ts l k =
     let e : length (take (t .len) s) ≡ t .len = length-take-le (t .len) s l in
     rw (k, e) (go (isCounted (t .kind)))
   where
     go : (b : Bool) → keyOf (elim b [ true ↦ memberOf s t ∷ counted (drop (t .len) s) ts | false ↦ counted (drop (t .len) s) ts ])
-        ≡ cond (not b) [] (encode (held (memberOf s t))) ++ keyOf (counted (drop (t .len) s) ts)
+        ≡ cond (not b) [] (encode (memberOf s t)) ++ keyOf (counted (drop (t .len) s) ts)
     go true = refl
     go false = refl
 
 -- ---- the tokens at the front, as many as are taken
 -- how much of the text they are, what they add to the key, which goes on with the key of what is left, and how much that is at most
-pub record Taken (cutter : List ℕ → List Tok) (s : List ℕ) (ts : List Tok) : Type 0 where
+pub record Taken (cutter : List ℕ → List Token) (s : List ℕ) (ts : List Token) : Type 0 where
   pub within : total ts ≤ length s
   pub view : keyBy cutter s ≡ entries s ts ++ keyBy cutter (drop (total ts) s)
   pub few : length (entries s ts) ≤ 11 * total ts
 
-module _ {cutter : List ℕ → List Tok} (cuts : Cutter cutter) where
+module _ {cutter : List ℕ → List Token} (cuts : Keyable cutter) where
   -- the first adds at most eleven bytes for each of its own
   module _ {s : List ℕ} (f : First cutter s) where
-    abbrev t : Tok
+    abbrev t : Token
     t = f .token
 
     abbrev adds : List ℕ
-    adds = entry (member (t .kind) (t .suff) (take (t .len) s))
+    adds = entry (member (t .kind) (t .suffix) (take (t .len) s))
 
     key-first : keyBy cutter s ≡ adds ++ keyBy cutter (drop (t .len) s)
     unfolding keyBy membersBy
@@ -52,9 +52,9 @@ module _ {cutter : List ℕ → List Tok} (cuts : Cutter cutter) where
     adds-few : length adds ≤ 11 * t .len
     adds-few =
         let n : length (take (t .len) s) ≡ t .len = length-take-le (t .len) s (f .within) in
-        omega (arith, entry-few (t .kind) (t .suff) (take (t .len) s) (omega (arith, f .some)))
+        omega (arith, entry-few (t .kind) (t .suffix) (take (t .len) s) (omega (arith, f .some)))
 
-    taken-first : {ts : List Tok} → Taken cutter (drop (t .len) s) ts → Taken cutter s (t ∷ ts)
+    taken-first : {ts : List Token} → Taken cutter (drop (t .len) s) ts → Taken cutter s (t ∷ ts)
     unfolding entries
     taken-first {ts} r =
         let far : drop (total ts) (drop (t .len) s) ≡ drop (t .len + total ts) s = drop-drop (total ts) (t .len) s in

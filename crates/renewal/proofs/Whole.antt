@@ -12,17 +12,17 @@ use lib.Seq.{sets, sets-eq, take-append-seam}
 use borrow.Author.Tests.{lt-ltb, le-ltb, eq-eqb, ne-eqb, eqb-true}
 use Rattle.lists.proofs.Bools.{by-test, on-cond}
 use Rattle.text.specs.Answer.{Answered, done, roomTooSmall, checkCut}
-use Rattle.lexer.specs.Cut.{Letters, Tok}
+use Rattle.lexer.specs.Cut.{Letters, Token}
 use Rattle.unicode.specs.Ranges.{flat}
 use Rattle.ucd.specs.Ucd.{xidStart, xidContinue, emoji}
 use Rattle.lexer.specs.Unicode.{lent}
-use Rattle.lexer.specs.Outcome.{tokensOf, tokensBy}
+use Rattle.lexer.specs.Promises.{tokensOf, tokensBy}
 use Rattle.lexer.proofs.Unicode.{lent-is}
 use Rattle.tokens.specs.Members.{membersOf}
 use Rattle.renewal.specs.Key.{keyBy, keyOfText}
-use Rattle.renewal.specs.Outcome.{answerOf, keyed, Keyed}
+use Rattle.renewal.specs.Promises.{answerOf, keyed, Keyed}
 use Rattle.renewal.specs.Steps.{Walked, Stored}
-use Rattle.renewal.proofs.Cutter.{cutter}
+use Rattle.renewal.proofs.Keyable.{keyable}
 use Rattle.renewal.proofs.Runs.{key-few-by}
 use Rattle.renewal.proofs.Exactly.{exactly-when}
 
@@ -32,14 +32,14 @@ stored-bytes bytes key e l = e ∙ sets-eq bytes key 0 (omega (arith, l)) ∙ (r
 
 -- room for eleven bytes for each byte of the text is enough
 pub room-enough : (u : Letters) (profile : ℕ) (s key : List ℕ) → length s ≤ length key / 11 → length (keyBy (tokensBy u profile) s) ≤ length key
-room-enough u profile s key l = omega (arith, key-few-by (cutter u profile) s)
+room-enough u profile s key l = omega (arith, key-few-by (keyable u profile) s)
 
-module _ (cutter : List ℕ → List Tok) {s key key′ : List ℕ} {n number also : ℕ} where
+module _ (cutter : List ℕ → List Token) {s key key′ : List ℕ} {n number also : ℕ} where
   stored : Walked cutter s true key n key′ → n ≤ length key → number ≡ done → also ≡ n → Stored cutter s key number also key′
   stored w l k a =
       record {
         answer = rw (← w .size, le-ltb (length key) n l) (record { number-is = k; also-is = a });
-        bytes = rw k (stored-bytes (keyBy cutter s) key (w .bytes) (omega (arith, w .size)));
+        key-is = rw k (stored-bytes (keyBy cutter s) key (w .key-is) (omega (arith, w .size)));
       }
 
   pub stored-all : Walked cutter s true key n key′ → length s ≤ length key / 11 → number ≡ done → also ≡ n → Stored cutter s key number also key′
@@ -47,19 +47,19 @@ module _ (cutter : List ℕ → List Tok) {s key key′ : List ℕ} {n number al
 
   pub stored-none : Walked cutter s false key n key′ → length key′ < n → number ≡ roomTooSmall → also ≡ n → Stored cutter s key number also key′
   stored-none w l k a =
-      let h : length key < n = rw (w .bytes) at l in
+      let h : length key < n = rw (w .key-is) at l in
       record {
         answer = rw (← w .size, lt-ltb (length key) n h) (record { number-is = k; also-is = a });
-        bytes = rw k (w .bytes);
+        key-is = rw k (w .key-is);
       }
 
 -- sized first, and then written
-pub room-sized : {cutter : List ℕ → List Tok} {s key key′ : List ℕ} {n : ℕ} → Walked cutter s false key n key′ → n ≤ length key′ → length (keyBy cutter s) ≤ length key′
+pub room-sized : {cutter : List ℕ → List Token} {s key key′ : List ℕ} {n : ℕ} → Walked cutter s false key n key′ → n ≤ length key′ → length (keyBy cutter s) ≤ length key′
 room-sized w l = omega (arith, w .size)
 
-pub stored-twice : (cutter : List ℕ → List Tok) {s key key′ key″ : List ℕ} {n m number also : ℕ} → Walked cutter s false key n key′ → n ≤ length key′ → Walked cutter s true key′ m key″ → number ≡ done → also ≡ n → Stored cutter s key number also key″
+pub stored-twice : (cutter : List ℕ → List Token) {s key key′ key″ : List ℕ} {n m number also : ℕ} → Walked cutter s false key n key′ → n ≤ length key′ → Walked cutter s true key′ m key″ → number ≡ done → also ≡ n → Stored cutter s key number also key″
 stored-twice cutter {s} {key} {key′} {key″} {n} {m} v l w k a =
-    let e : key′ ≡ key = v .bytes in
+    let e : key′ ≡ key = v .key-is in
     let w′ : Walked cutter s true key m key″ = rw e at w in
     let h : n ≤ length key = rw e at l in
     stored cutter w′ (omega (arith, v .size, w .size, h)) k (omega (arith, v .size, w .size))
@@ -74,29 +74,29 @@ pub keyed-refused : {s key key′ : List ℕ} {profile number also : ℕ} → An
 unfolding answerOf keyed
 keyed-refused {s} {key} {key′} {profile} a n e =
     let h : eqb (checkCut s profile .0) done ≡ false = ne-eqb _ _ (λ z. n (a .number-is ∙ z)) in
-    record { answer = rw h a; bytes = rw (h, h) e }
+    record { answer = rw h a; key-is = rw (h, h) e }
 
 pub keyed-done : {s key key′ : List ℕ} {profile n₀ a₀ number also : ℕ} → Answered (checkCut s profile) n₀ a₀ → n₀ ≡ done → Stored (tokensOf profile) s key number also key′ → Keyed s profile key number also key′
 unfolding answerOf keyed keyOfText membersOf keyBy
 keyed-done {s} {key} {key′} {profile} c z r =
     let h : eqb (checkCut s profile .0) done ≡ true = eq-eqb _ _ (sym (c .number-is) ∙ z) in
-    record { answer = rw h (r .answer); bytes = rw (h, ← r .answer .number-is) (r .bytes) }
+    record { answer = rw h (r .answer); key-is = rw (h, ← r .answer .number-is) (r .key-is) }
 
 -- ---- what a call that is done has written: the key of an accepted text
-done-accepted : {s : List ℕ} {profile : ℕ} {key : List ℕ} {a : ℕ} {key′ : List ℕ} → Keyed s profile key done a key′ → checkCut s profile .0 ≡ done
+pub done-accepted : {s : List ℕ} {profile : ℕ} {key : List ℕ} {a : ℕ} {key′ : List ℕ} → Keyed s profile key done a key′ → checkCut s profile .0 ≡ done
 unfolding answerOf
 done-accepted {s} {profile} p =
     by-test (eqb (checkCut s profile .0) done) (λ e. eqb-true (checkCut s profile .0) done e)
     (λ e. let h = p .answer .number-is in sym (rw e at h))
 
-done-written : {s : List ℕ} {profile : ℕ} {key : List ℕ} {a : ℕ} {key′ : List ℕ} → Keyed s profile key done a key′ → take a key′ ≡ keyOfText profile s
+pub done-written : {s : List ℕ} {profile : ℕ} {key : List ℕ} {a : ℕ} {key′ : List ℕ} → Keyed s profile key done a key′ → take a key′ ≡ keyOfText profile s
 unfolding answerOf keyed
 done-written {s} {profile} {key} {a} p =
     let c = eq-eqb (checkCut s profile .0) done (done-accepted p) in
     let k = keyOfText profile s in
     let n : a ≡ length k = (rw c at (p .answer .also-is)) ∙ on-cond (λ (r : ℕ × ℕ). r .1 ≡ length k) (ltb (length key) (length k)) refl refl in
     let d : eqb (answerOf s profile (length key) .0) done ≡ true = eq-eqb _ _ (sym (p .answer .number-is)) in
-    rw (n, p .bytes, d) (take-append-seam k (drop (length k) key))
+    rw (n, p .key-is, d) (take-append-seam k (drop (length k) key))
 
 -- THE THEOREM on what two calls have written: the keys are equal if and only if the counted tokens are
 pub exactly-when-written : {s s′ : List ℕ} {profile : ℕ} {key key′ : List ℕ} {a b : ℕ} {k k′ : List ℕ} → Keyed s profile key done a k → Keyed s′ profile key′ done b k′ →
@@ -108,4 +108,4 @@ exactly-when-written {s} {s′} {profile} p q =
 -- ---- ONE OUTCOME: two calls with the same text, profile and room answer the same and leave the same
 pub keyed-unique : {s : List ℕ} {profile : ℕ} {key : List ℕ} {n a m b : ℕ} {l k : List ℕ} → Keyed s profile key n a l → Keyed s profile key m b k → (n ≡ m) × (a ≡ b) × (l ≡ k)
 keyed-unique p q =
-    (p .answer .number-is ∙ sym (q .answer .number-is), p .answer .also-is ∙ sym (q .answer .also-is), p .bytes ∙ sym (q .bytes))
+    (p .answer .number-is ∙ sym (q .answer .number-is), p .answer .also-is ∙ sym (q .answer .also-is), p .key-is ∙ sym (q .key-is))

@@ -12,13 +12,12 @@ use lib.ListN.{length, take, drop, set, getD, length-set, length-append, length-
 use lib.Seq.{sets, set-set, drop-cons, drop-drop, drop-at, take-take, length-take-le, take-all, take-add}
 use borrow.Author.Tests.{eq-eqb, ne-eqb}
 use Rattle.lists.proofs.Bools.{on-cond}
-use Rattle.lists.specs.Put.{Put, PutIf}
+use Rattle.lists.specs.Steps.{Put, PutIf}
 use Rattle.lists.proofs.Put.{sets-append, put-then, put-both}
-use Rattle.renewal.specs.Key.{noBody, bodyLength, lowBytes, word, bodyOf, texts, held, encode}
+use Rattle.renewal.specs.Key.{noBody, bodyLength, lowBytes, word, bodyOf, texts, encode}
 use Rattle.renewal.specs.Steps.{member, entry, sizeBy, BodyFits, Writable, Ready}
 use Rattle.renewal.proofs.Words.{digits-length}
 use Rattle.renewal.proofs.Texts.{texts-nil, texts-length, texts-at}
-use Rattle.renewal.proofs.Prefix.{held-empty, held-stored}
 use Rattle.renewal.proofs.Bodies.{kind-small, body-eight, body-most}
 
 -- ---- four bytes
@@ -159,33 +158,33 @@ module _ {body k : ℕ} {key : List ℕ} (f : BodyFits body k key) where
   body-first = elim (ℕ-discrete body 4) [ yes e ↦ omega (arith, f .room) | no n ↦ omega (arith, f .room, f .eight n) ]
 
   module _ (len : ℕ) {a : ℕ} {key₁ : List ℕ} (p : Put key k (word len) key₁ a) where
-    pub body-four : (suff : ℕ) → body ≡ 4 → Put key k (take body (word len ++ word suff)) key₁ a
+    pub body-four : (suffix : ℕ) → body ≡ 4 → Put key k (take body (word len ++ word suffix)) key₁ a
     unfolding lowBytes
-    body-four suff e = rw e p
+    body-four suffix e = rw e p
 
     pub body-second : (body ≡ 4 → ⊥) → a + 4 ≤ length key₁
     body-second n = omega (arith, f .room, f .eight n, p .next, p .long, digits-length 4 len)
 
-    pub body-both : (suff : ℕ) {r : ℕ} {key₂ : List ℕ} → (body ≡ 4 → ⊥) → Put key₁ a (word suff) key₂ r → Put key k (take body (word len ++ word suff)) key₂ r
+    pub body-both : (suffix : ℕ) {r : ℕ} {key₂ : List ℕ} → (body ≡ 4 → ⊥) → Put key₁ a (word suffix) key₂ r → Put key k (take body (word len ++ word suffix)) key₂ r
     unfolding lowBytes
-    body-both suff n q = put-then p q (rw (f .eight n))
+    body-both suffix n q = put-then p q (rw (f .eight n))
 
 -- ---- one record: its bytes, and how many they are
-module _ (kind suff : ℕ) (text : List ℕ) where
+module _ (kind suffix : ℕ) (text : List ℕ) where
   abbrev is : List ℕ
-  is = encode (held (member kind suff text))
+  is = encode (member kind suffix text)
 
   is-empty : bodyLength kind ≡ 0 → is ≡ kind ∷ []
   unfolding encode
-  is-empty b = rw (held-empty (member kind suff text) b, b, texts-nil)
+  is-empty b = rw b
 
-  is-stored : (bodyLength kind ≡ 0 → ⊥) → is ≡ (kind ∷ []) ++ (bodyOf (member kind suff text) ++ texts text)
+  is-stored : (bodyLength kind ≡ 0 → ⊥) → is ≡ (kind ∷ []) ++ (bodyOf (member kind suffix text) ++ texts text)
   unfolding encode
-  is-stored z = rw (held-stored (member kind suff text) z)
+  is-stored z = rw (ne-eqb (bodyLength kind) 0 z)
 
-  body-long : (bodyLength kind ≡ noBody → ⊥) → length (bodyOf (member kind suff text)) ≡ bodyLength kind
+  body-long : (bodyLength kind ≡ noBody → ⊥) → length (bodyOf (member kind suffix text)) ≡ bodyLength kind
   unfolding lowBytes
-  body-long n = omega (arith, length-take (bodyLength kind) (word (length text) ++ word suff), body-most kind n)
+  body-long n = omega (arith, length-take (bodyLength kind) (word (length text) ++ word suffix), body-most kind n)
 
   pub size-is : (bodyLength kind ≡ noBody → ⊥) → length is ≡ sizeBy (bodyLength kind) (length text)
   size-is n =
@@ -193,10 +192,10 @@ module _ (kind suff : ℕ) (text : List ℕ) where
         | yes z ↦ ap length (is-empty z) ∙ rw z
         | no z ↦
             ap length (is-stored z)
-            ∙ rw (ne-eqb (bodyLength kind) 0 z) (omega (arith, length-append (bodyOf (member kind suff text)) (texts text), body-long n, texts-length text))
+            ∙ rw (ne-eqb (bodyLength kind) 0 z) (omega (arith, length-append (bodyOf (member kind suffix text)) (texts text), body-long n, texts-length text))
       ]
 
-module _ {body k kind suff : ℕ} {text key : List ℕ} (w : Writable body k kind suff text key) where
+module _ {body k kind suffix : ℕ} {text key : List ℕ} (w : Writable body k kind suffix text key) where
   stands : bodyLength kind ≡ noBody → ⊥
   stands z = w .stands (w .body-is ∙ z)
 
@@ -208,13 +207,13 @@ module _ {body k kind suff : ℕ} {text key : List ℕ} (w : Writable body k kin
   writable-byte = omega (arith, w .room)
 
   module _ {a c : ℕ} {key₁ : List ℕ} (p : Put key k (c ∷ []) key₁ a) (u : c ≡ kind) where
-    pub written-empty : body ≡ 0 → Put key k (encode (held (member kind suff text))) key₁ a
-    written-empty z = rw (is-empty kind suff text (sym (w .body-is) ∙ z), ← u) p
+    pub written-empty : body ≡ 0 → Put key k (encode (member kind suffix text)) key₁ a
+    written-empty z = rw (is-empty kind suffix text (sym (w .body-is) ∙ z), ← u) p
 
     module _ (z : body ≡ 0 → ⊥) where
-      stored-size : length (encode (held (member kind suff text))) ≡ 1 + body + length (texts text)
+      stored-size : length (encode (member kind suffix text)) ≡ 1 + body + length (texts text)
       stored-size =
-          size-is kind suff text stands ∙ rw (← w .body-is, ne-eqb body 0 z) (omega (arith, texts-length text))
+          size-is kind suffix text stands ∙ rw (← w .body-is, ne-eqb body 0 z) (omega (arith, texts-length text))
 
       pub writable-body : BodyFits body a key₁
       writable-body =
@@ -223,16 +222,16 @@ module _ {body k kind suff : ℕ} {text key : List ℕ} (w : Writable body k kin
             eight = λ f. w .body-is ∙ body-eight kind stands (λ x. z (w .body-is ∙ x)) (λ x. f (w .body-is ∙ x));
           }
 
-      module _ {d n : ℕ} {key₂ : List ℕ} (q : Put key₁ a (take body (word n ++ word suff)) key₂ d) (v : n ≡ length text) where
-        body-put : Put key₁ a (bodyOf (member kind suff text)) key₂ d
+      module _ {d n : ℕ} {key₂ : List ℕ} (q : Put key₁ a (take body (word n ++ word suffix)) key₂ d) (v : n ≡ length text) where
+        body-put : Put key₁ a (bodyOf (member kind suffix text)) key₂ d
         body-put = rw (w .body-is, v) at q
 
         pub writable-texts : d + length (texts text) ≤ length key₂
         writable-texts =
-            omega (arith, stored-size, w .room, w .body-is, p .next, p .long, body-put .next, q .long, body-long kind suff text stands)
+            omega (arith, stored-size, w .room, w .body-is, p .next, p .long, body-put .next, q .long, body-long kind suffix text stands)
 
-        pub written-stored : {key₃ : List ℕ} {r : ℕ} → Put key₂ d (texts text) key₃ r → Put key k (encode (held (member kind suff text))) key₃ r
-        written-stored s = put-then p (put-then body-put s refl) (is-stored kind suff text (λ x. z (w .body-is ∙ x)) ∙ rw u)
+        pub written-stored : {key₃ : List ℕ} {r : ℕ} → Put key₂ d (texts text) key₃ r → Put key k (encode (member kind suffix text)) key₃ r
+        written-stored s = put-then p (put-then body-put s refl) (is-stored kind suffix text (λ x. z (w .body-is ∙ x)) ∙ rw u)
 
 -- ---- one member
 pub size-empty : (body n : ℕ) → body ≡ 0 → 1 ≡ sizeBy body n
@@ -241,27 +240,27 @@ size-empty body n e = rw (eq-eqb body 0 e)
 pub size-stored : (body n : ℕ) {r : ℕ} → (body ≡ 0 → ⊥) → r ≡ 1 + body + (n + (n + 15) / 16) → r ≡ sizeBy body n
 size-stored body n e u = rw (ne-eqb body 0 e) u
 
-module _ (kind suff : ℕ) (text : List ℕ) {body : ℕ} (b : body ≡ bodyLength kind) where
-  pub entered-none : {write : Bool} {k : ℕ} {key key′ : List ℕ} → body ≡ noBody → key′ ≡ key → PutIf write key k (entry (member kind suff text)) key′ k
+module _ (kind suffix : ℕ) (text : List ℕ) {body : ℕ} (b : body ≡ bodyLength kind) where
+  pub entered-none : {write : Bool} {k : ℕ} {key key′ : List ℕ} → body ≡ noBody → key′ ≡ key → PutIf write key k (entry (member kind suffix text)) key′ k
   unfolding entry
   entered-none {write} {k} {key} n e =
-      let z : entry (member kind suff text) ≡ [] = rw (eq-eqb (bodyLength kind) noBody (sym b ∙ n)) in
+      let z : entry (member kind suffix text) ≡ [] = rw (eq-eqb (bodyLength kind) noBody (sym b ∙ n)) in
       rw z (record { same = e ∙ on-cond (λ (x : List ℕ). key ≡ x) write refl refl; next = omega arith })
 
   module _ (n : body ≡ noBody → ⊥) where
-    entry-is : entry (member kind suff text) ≡ encode (held (member kind suff text))
+    entry-is : entry (member kind suffix text) ≡ encode (member kind suffix text)
     unfolding entry
     entry-is = rw (ne-eqb (bodyLength kind) noBody (λ z. n (b ∙ z)))
 
-    pub writable : {table key : List ℕ} {write : Bool} {k : ℕ} → Ready table write k kind suff text key → write ≡ true → Writable body k kind suff text key
+    pub writable : {table key : List ℕ} {write : Bool} {k : ℕ} → Ready table write k kind suffix text key → write ≡ true → Writable body k kind suffix text key
     writable r t = record { body-is = b; stands = n; short = r .short; room = rw entry-is at (r .room t) }
 
-    pub entered-written : {write : Bool} {k r : ℕ} {key key′ : List ℕ} → write ≡ true → Put key k (encode (held (member kind suff text))) key′ r → PutIf write key k (entry (member kind suff text)) key′ r
+    pub entered-written : {write : Bool} {k r : ℕ} {key key′ : List ℕ} → write ≡ true → Put key k (encode (member kind suffix text)) key′ r → PutIf write key k (entry (member kind suffix text)) key′ r
     entered-written t p = rw (entry-is, t) (record { same = p .same; next = p .next })
 
-    pub entered-sized : {write : Bool} {k m r : ℕ} {key key′ : List ℕ} → write ≡ false → m ≡ sizeBy body (length text) → r ≡ k + m → key′ ≡ key → PutIf write key k (entry (member kind suff text)) key′ r
+    pub entered-sized : {write : Bool} {k m r : ℕ} {key key′ : List ℕ} → write ≡ false → m ≡ sizeBy body (length text) → r ≡ k + m → key′ ≡ key → PutIf write key k (entry (member kind suffix text)) key′ r
     entered-sized {m = m} t u v e =
-        let l : length (encode (held (member kind suff text))) ≡ m = size-is kind suff text (λ z. n (b ∙ z)) ∙ ap (λ (x : ℕ). sizeBy x (length text)) (sym b) ∙ sym u in
+        let l : length (encode (member kind suffix text)) ≡ m = size-is kind suffix text (λ z. n (b ∙ z)) ∙ ap (λ (x : ℕ). sizeBy x (length text)) (sym b) ∙ sym u in
         rw (entry-is, t) (record { same = e; next = omega (arith, l) })
 
 -- a body has at most eight bytes
@@ -273,12 +272,12 @@ size-fits kind n {body} {m} b s e =
     ]
 
 -- so a member of one byte or more adds at most eleven bytes for each
-pub entry-few : (kind suff : ℕ) (text : List ℕ) → 1 ≤ length text → length (entry (member kind suff text)) ≤ 11 * length text
+pub entry-few : (kind suffix : ℕ) (text : List ℕ) → 1 ≤ length text → length (entry (member kind suffix text)) ≤ 11 * length text
 unfolding entry
-entry-few kind suff text h =
+entry-few kind suffix text h =
     elim (ℕ-discrete (bodyLength kind) noBody) [
       | yes e ↦ rw (eq-eqb (bodyLength kind) noBody e) (omega arith)
       | no n ↦
           rw (ne-eqb (bodyLength kind) noBody n)
-          (omega (arith, size-is kind suff text n, size-fits kind (length text) refl n refl))
+          (omega (arith, size-is kind suffix text n, size-fits kind (length text) refl n refl))
     ]

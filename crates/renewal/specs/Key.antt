@@ -7,7 +7,7 @@ use lib.Dec.{eqb, leb}
 use lib.ListN.{length, take, drop}
 use Rattle.lists.specs.Cut.{cut}
 use Rattle.lexer.specs.Kinds.{unclosedComment, ident, annotation, dollar, unknown, isLiteral}
-use Rattle.lexer.specs.Cut.{Tok}
+use Rattle.lexer.specs.Cut.{Token}
 use Rattle.tokens.specs.Members.{Member, membersBy, membersOf}
 
 -- ---- the body
@@ -37,7 +37,7 @@ word n = lowBytes 4 n
 
 -- the length, then the suffix start, as far as the body goes
 abbrev pub bodyOf : Member → List ℕ
-bodyOf m = take (bodyLength (m .kind)) (word (m .len) ++ word (m .suff))
+bodyOf m = take (bodyLength (m .kind)) (word (m .len) ++ word (m .suffix))
 
 -- ---- text records
 -- the first record of some bytes, 128 + n and then n bytes; there are sixteen in each record but the last
@@ -51,19 +51,16 @@ unfoldable pub texts : List ℕ → List ℕ
 texts l = flatten (cut nextText l)
 
 -- ---- the key
--- of a member whose body is empty the key holds the kind alone
-unfoldable pub held : Member → Member
-held m = cond (eqb (bodyLength (m .kind)) 0) (record { kind = m .kind; len = 0; suff = 0; bytes = [] }) m
-
+-- of a member the kind, then its body, and where that is not empty its text
 unfoldable pub encode : Member → List ℕ
-encode m = m .kind ∷ (bodyOf m ++ texts (m .bytes))
+encode m = m .kind ∷ cond (eqb (bodyLength (m .kind)) 0) [] (bodyOf m ++ texts (m .bytes))
 
 unfoldable pub keyOf : List Member → List ℕ
 keyOf [] = []
-keyOf (m ∷ ms) = encode (held m) ++ keyOf ms
+keyOf (m ∷ ms) = encode m ++ keyOf ms
 
 -- the key of a text, of any cutter, and of the profiles' own
-unfoldable pub keyBy : (List ℕ → List Tok) → List ℕ → List ℕ
+unfoldable pub keyBy : (List ℕ → List Token) → List ℕ → List ℕ
 keyBy cutter s = keyOf (membersBy cutter s)
 
 unfoldable pub keyOfText : ℕ → List ℕ → List ℕ

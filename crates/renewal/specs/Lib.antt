@@ -1,4 +1,4 @@
 pub mod Key
 pub mod Rules
-pub mod Outcome
+pub mod Promises
 pub mod Steps

@@ -8,15 +8,15 @@ use lib.Dec.{eqb}
 use lib.ListN.{length, drop}
 use Rattle.text.specs.Answer.{longest}
 use Rattle.lexer.specs.Kinds.{atSign, slashMark, marks}
-use Rattle.lexer.specs.Cut.{Tok}
+use Rattle.lexer.specs.Cut.{Token}
 use Rattle.tokens.specs.Members.{Member, isCounted, memberOf}
 use Rattle.renewal.specs.Key.{noBody, bodyLength}
 
 -- what a key may hold: a kind alone; a length and a text of that length; or a suffix start between 1 and the length too
 pub data Allowed (m : Member) : Type 0 where
-  empty : bodyLength (m .kind) ≡ 0 → m .len ≡ 0 → m .suff ≡ 0 → m .bytes ≡ [] → Allowed m
-  plain : bodyLength (m .kind) ≡ 4 → 1 ≤ m .len → m .len ≤ longest → m .suff ≡ 0 → length (m .bytes) ≡ m .len → Allowed m
-  literal : bodyLength (m .kind) ≡ 8 → 1 ≤ m .suff → m .suff ≤ m .len → m .len ≤ longest → length (m .bytes) ≡ m .len → Allowed m
+  empty : bodyLength (m .kind) ≡ 0 → m .len ≡ 0 → m .suffix ≡ 0 → m .bytes ≡ [] → Allowed m
+  plain : bodyLength (m .kind) ≡ 4 → 1 ≤ m .len → m .len ≤ longest → m .suffix ≡ 0 → length (m .bytes) ≡ m .len → Allowed m
+  literal : bodyLength (m .kind) ≡ 8 → 1 ≤ m .suffix → m .suffix ≤ m .len → m .len ≤ longest → length (m .bytes) ≡ m .len → Allowed m
 
 -- the byte that a list of marks has for a kind
 unfoldable pub byteIn : List (ℕ × ℕ) → ℕ → List ℕ
@@ -29,20 +29,20 @@ ownBytes = byteIn ((0x40, atSign) ∷ (0x2F, slashMark) ∷ marks)
 
 -- what is true of every member of a text that is not too long: what the key does not hold of it, its kind fixes
 pub data Ruled (m : Member) : Type 0 where
-  mark : bodyLength (m .kind) ≡ 0 → m .len ≡ length (ownBytes (m .kind)) → m .suff ≡ 0 → m .bytes ≡ ownBytes (m .kind) → Ruled m
+  mark : bodyLength (m .kind) ≡ 0 → m .len ≡ length (ownBytes (m .kind)) → m .suffix ≡ 0 → m .bytes ≡ ownBytes (m .kind) → Ruled m
   stored : (bodyLength (m .kind) ≡ 0 → ⊥) → Allowed m → Ruled m
 
 -- ---- a cutter on bytes gives the tokens of any text from its bytes. What the key asks of it: of a text that is not empty the first token takes
 -- at least one byte, the tokens of what is left follow, its kind stands in keys exactly where it is counted, and then, in a text that
 -- is not too long, it obeys the rules
-pub record First (cutter : List ℕ → List Tok) (s : List ℕ) : Type 0 where
-  pub token : Tok
+pub record First (cutter : List ℕ → List Token) (s : List ℕ) : Type 0 where
+  pub token : Token
   pub some : 1 ≤ token .len
   pub within : token .len ≤ length s
   pub view : cutter s ≡ token ∷ cutter (drop (token .len) s)
   pub known : eqb (bodyLength (token .kind)) noBody ≡ not (isCounted (token .kind))
   pub ruled : (length s ≤ longest → isCounted (token .kind) ≡ true → Ruled (memberOf s token))
 
-pub record Cutter (cutter : List ℕ → List Tok) : Type 0 where
+pub record Keyable (cutter : List ℕ → List Token) : Type 0 where
   pub none : cutter [] ≡ []
   pub first : (a : ℕ) (s : List ℕ) → First cutter (a ∷ s)

@@ -8,11 +8,11 @@ use lib.Dec.{eqb}
 use lib.ListN.{length, take, drop, getD}
 use lib.Seq.{sets}
 use Rattle.lists.specs.Over.{over}
-use Rattle.lists.specs.Values.{valuesFrom}
+use Rattle.lists.specs.Steps.{valuesFrom}
 use Rattle.text.specs.Answer.{Answered, done, longest, checkRoom}
-use Rattle.lexer.specs.Cut.{Tok, total}
+use Rattle.lexer.specs.Cut.{Token, total}
 use Rattle.tokens.specs.Members.{Member}
-use Rattle.renewal.specs.Key.{noBody, bodyLength, held, encode, keyBy}
+use Rattle.renewal.specs.Key.{noBody, bodyLength, encode, keyBy}
 
 -- the constant table: the body lengths of the kinds 0 to 61
 unfoldable pub bodies : List ℕ
@@ -20,11 +20,11 @@ bodies = valuesFrom bodyLength 0 62
 
 -- the member of a kind, a suffix start and its bytes
 abbrev pub member : ℕ → ℕ → List ℕ → Member
-member kind suff text = record { kind = kind; len = length text; suff = suff; bytes = text }
+member kind suffix text = record { kind = kind; len = length text; suffix = suffix; bytes = text }
 
 -- what a member adds to the key, none where its kind stands in no key
 unfoldable pub entry : Member → List ℕ
-entry m = cond (eqb (bodyLength (m .kind)) noBody) [] (encode (held m))
+entry m = cond (eqb (bodyLength (m .kind)) noBody) [] (encode m)
 
 -- how many bytes that is of a kind that stands in the key, by the lengths of its body and of its text
 abbrev pub sizeBy : ℕ → ℕ → ℕ
@@ -36,29 +36,29 @@ pub record BodyFits (body k : ℕ) (key : List ℕ) : Type 0 where
   pub eight : ((body ≡ 4 → ⊥) → body ≡ 8)
 
 -- a record may be written at place k: its kind stands in the key, with a body of that length
-pub record Writable (body k kind suff : ℕ) (text key : List ℕ) : Type 0 where
+pub record Writable (body k kind suffix : ℕ) (text key : List ℕ) : Type 0 where
   pub body-is : body ≡ bodyLength kind
   pub stands : (body ≡ noBody → ⊥)
   pub short : length text ≤ longest
-  pub room : k + length (encode (held (member kind suff text))) ≤ length key
+  pub room : k + length (encode (member kind suffix text)) ≤ length key
 
 -- a member may be entered at place k
-pub record Ready (table : List ℕ) (write : Bool) (k kind suff : ℕ) (text key : List ℕ) : Type 0 where
+pub record Ready (table : List ℕ) (write : Bool) (k kind suffix : ℕ) (text key : List ℕ) : Type 0 where
   pub table-is : table ≡ bodies
   pub short : length text ≤ longest
   pub low : k ≤ 11 * longest
-  pub room : (write ≡ true → k + length (entry (member kind suff text)) ≤ length key)
+  pub room : (write ≡ true → k + length (entry (member kind suffix text)) ≤ length key)
 
 -- ---- a run of tokens
 -- those that stand in a list of words from record i on, so many
-unfoldable pub toks : List ℕ → ℕ → ℕ → List Tok
+unfoldable pub toks : List ℕ → ℕ → ℕ → List Token
 toks list i zero = []
-toks list i (suc n) = record { kind = getD list (3 * i) 0; len = getD list (3 * i + 1) 0; suff = getD list (3 * i + 2) 0 } ∷ toks list (suc i) n
+toks list i (suc n) = record { kind = getD list (3 * i) 0; len = getD list (3 * i + 1) 0; suffix = getD list (3 * i + 2) 0 } ∷ toks list (suc i) n
 
 -- what the tokens at the front of a text add to the key
-unfoldable pub entries : List ℕ → List Tok → List ℕ
+unfoldable pub entries : List ℕ → List Token → List ℕ
 entries s [] = []
-entries s (t ∷ ts) = entry (member (t .kind) (t .suff) (take (t .len) s)) ++ entries (drop (t .len) s) ts
+entries s (t ∷ ts) = entry (member (t .kind) (t .suffix) (take (t .len) s)) ++ entries (drop (t .len) s) ts
 
 -- the tokens that a list holds, of a text from a place on, may be entered at place k
 pub record RunReady (table : List ℕ) (write : Bool) (k : ℕ) (s : List ℕ) (from : ℕ) (list : List ℕ) (count : ℕ) (key : List ℕ) : Type 0 where
@@ -70,12 +70,12 @@ pub record RunReady (table : List ℕ) (write : Bool) (k : ℕ) (s : List ℕ) (
   pub room : (write ≡ true → k + length (entries (drop from s) (toks list 0 count)) ≤ length key)
 
 -- a walk over the tokens, which sizes the key, and writes it where that is asked
-pub record Walked (cutter : List ℕ → List Tok) (s : List ℕ) (write : Bool) (key : List ℕ) (n : ℕ) (key′ : List ℕ) : Type 0 where
+pub record Walked (cutter : List ℕ → List Token) (s : List ℕ) (write : Bool) (key : List ℕ) (n : ℕ) (key′ : List ℕ) : Type 0 where
   pub few : n ≤ 11 * length s
   pub size : n ≡ length (keyBy cutter s)
-  pub bytes : key′ ≡ cond write (sets key 0 (keyBy cutter s)) key
+  pub key-is : key′ ≡ cond write (sets key 0 (keyBy cutter s)) key
 
 -- the answer for a text that passed the checks, and the key
-pub record Stored (cutter : List ℕ → List Tok) (s key : List ℕ) (number also : ℕ) (key′ : List ℕ) : Type 0 where
+pub record Stored (cutter : List ℕ → List Token) (s key : List ℕ) (number also : ℕ) (key′ : List ℕ) : Type 0 where
   pub answer : Answered (checkRoom (length key) (length (keyBy cutter s))) number also
-  pub bytes : key′ ≡ cond (eqb number done) (over (keyBy cutter s) key) key
+  pub key-is : key′ ≡ cond (eqb number done) (over (keyBy cutter s) key) key

@@ -1,5 +1,5 @@
 // The renewal key of a text: equal for two texts exactly when their counted tokens are.
-ghost use Rattle.renewal.specs.Outcome.{Keyed};
+ghost use Rattle.renewal.specs.Promises.{Keyed};
 
 mod records;
 mod table;

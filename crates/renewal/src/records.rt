@@ -3,9 +3,9 @@ ghost use mathlib.Core.Path.{_≡_};
 ghost use mathlib.Core.List.{[], _∷_, _++_};
 ghost use Prim.Native.Nat.{_+_, _*_, _≤_, min};
 ghost use lib.ListN.{length, take, drop};
-ghost use Rattle.lists.specs.Put.{Put, PutIf};
+ghost use Rattle.lists.specs.Steps.{Put, PutIf};
 ghost use Rattle.text.specs.Answer.{longest};
-ghost use Rattle.renewal.specs.Key.{word, texts, held, encode};
+ghost use Rattle.renewal.specs.Key.{word, texts, encode};
 ghost use Rattle.renewal.specs.Steps.{sizeBy, member, entry, toks, entries, BodyFits, Writable, Ready, RunReady};
 use crate::table::NO_BODY;
 use crate::table::body_length;
@@ -134,7 +134,7 @@ fn put_body(key: &mut [u8], k: usize, body: u8, len: u32, suffix: u32) -> usize
 // A kind that stands in the key, its body and its text records.
 fn put_record(key: &mut [u8], k: usize, kind: u32, body: u8, suffix: u32, text: &[u8]) -> usize
     requires { ⌜ Writable body k kind suffix (now text) (now key) ⌝ }
-    ensures { λ r. ⌜ Put (now (key .entry)) k (encode (held (member kind suffix (now (text .entry))))) (now (key .exit)) r ⌝ }
+    ensures { λ r. ⌜ Put (now (key .entry)) k (encode (member kind suffix (now (text .entry)))) (now (key .exit)) r ⌝ }
 {
     let a = put_byte(key, k, kind as u8);
     if body == 0 {

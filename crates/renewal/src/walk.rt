@@ -4,7 +4,7 @@ ghost use mathlib.Core.Bool.{true};
 ghost use Prim.Native.Nat.{_≤_};
 ghost use lib.ListN.{length};
 ghost use Rattle.text.specs.Answer.{longest};
-ghost use Rattle.lexer.specs.Outcome.{tokensOf, tokensBy};
+ghost use Rattle.lexer.specs.Promises.{tokensOf, tokensBy};
 ghost use Rattle.lexer.specs.Unicode.{lent};
 ghost use Rattle.renewal.specs.Key.{keyBy};
 ghost use Rattle.renewal.specs.Steps.{bodies, Walked, Stored};

@@ -13,27 +13,28 @@ use Rattle.lists.proofs.Bools.{by-test}
 use Rattle.unicode.specs.Utf8.{chars}
 use Rattle.unicode.specs.Text.{left}
 use Rattle.unicode.proofs.Text.{point-at, left-end, bytes-chars}
-use Rattle.lexer.specs.Cut.{Letters, Tok, piece, tokens, total}
+use Rattle.lexer.specs.Cut as cut
+use Rattle.lexer.specs.Cut.{Letters, nextToken, tokens, total}
 use Rattle.lexer.proofs.Shapes.{tokens-nil}
 use Rattle.tokens.proofs.First.{tokens-first}
 use Rattle.tokens.proofs.Tiling.{tiles-chars}
 use Rattle.rows.specs.Rows.{records}
-use Rattle.lexer.specs.Outcome.{front}
+use Rattle.lexer.specs.Promises.{front}
 use Rattle.rows.specs.Steps.{recordAt, placeAfter, recordNo, rowAfter, Filled}
 use Rattle.rows.specs.declared.Token.{Token}
 
-pub length-records : (ts : List Tok) → length (records ts) ≡ length ts
+pub length-records : (ts : List cut.Token) → length (records ts) ≡ length ts
 unfolding records
 length-records [] = refl
 length-records (t ∷ ts) = ap suc (length-records ts)
 
 module _ (u : Letters) (profile : ℕ) (s : List ℕ) where
-  abbrev from : ℕ → List Tok
+  abbrev from : ℕ → List cut.Token
   from at = tokens u profile (left s at)
 
   -- the token at a place before the end
   record Stepped (at : ℕ) : Type 0 where
-    pub token : Tok
+    pub token : cut.Token
     pub first-is : front (from at) ≡ token
     pub tokens-are : from at ≡ token ∷ from (at + token .len)
     pub within : at + token .len ≤ length s
@@ -42,7 +43,7 @@ module _ (u : Letters) (profile : ℕ) (s : List ℕ) where
   unfolding front
   stepped at h =
       let c = point-at s at h in
-      let p = piece u profile _ _ .0 in
+      let p = nextToken u profile _ _ .0 in
       let e : from at ≡ p ∷ tokens u profile (chars (drop (p .len) (drop at s))) = tokens-first u profile _ _ (drop at s) (c .view) in
       let f : from at ≡ p ∷ from (at + p .len) = e ∙ rw drop-drop in
       record {
@@ -69,9 +70,9 @@ module _ (u : Letters) (profile : ℕ) (s : List ℕ) where
       let d = stepped at h in
       let e : from at ≡ d .token ∷ from (at + recordAt u profile s at .len) = d .tokens-are ∙ rw (d .first-is) in
       record {
-        within = omega (arith, d .within, ap (λ (t : Tok). t .len) (d .first-is));
+        within = omega (arith, d .within, ap (λ (t : cut.Token). t .len) (d .first-is));
         count = omega (arith, f .count, ap length e);
-        same = (rw (d .first-is) (ap (λ (ts : List Tok). sets (rowAfter u profile s row i) i (records ts)) (sym (d .tokens-are)))) ∙ f .same;
+        same = (rw (d .first-is) (ap (λ (ts : List cut.Token). sets (rowAfter u profile s row i) i (records ts)) (sym (d .tokens-are)))) ∙ f .same;
       }
 
   pub filling : (row : List Token) (i : ℕ) → i ≤ length (tokens u profile (chars s)) → Filling row i

@@ -9,8 +9,9 @@ use lib.ListN.{length, drop, getD}
 use lib.Seq.{drop-cons, drop-nil}
 use Rattle.lists.proofs.Bools.{by-test}
 use Rattle.text.specs.Answer.{Answered, done}
-use Rattle.lexer.specs.Cut.{Tok, flat}
-use Rattle.lexer.specs.Outcome.{tokensOf, answerOf, listed, Listed}
+use Rattle.lexer.specs.Cut as cut
+use Rattle.lexer.specs.Cut.{flat}
+use Rattle.lexer.specs.Promises.{tokensOf, answerOf, listed, Listed}
 use Rattle.rows.specs.Rows.{records, words, rowed, Rowed}
 use Rattle.rows.specs.declared.Token.{Token}
 
@@ -45,10 +46,10 @@ pub record-words : (i : ℕ) (row : List Token) (d : Token) → i < length row �
 unfolding words
 record-words i row d h = sym (words-drop i row) ∙ ap words (drop-cons row i d h) ∙ ap (λ (r : List ℕ). getD row i d .kind ∷ getD row i d .len ∷ getD row i d .suffix ∷ r) (words-drop (suc i) row)
 
-words-records : (ts : List Tok) → words (records ts) ≡ flat ts
+words-records : (ts : List cut.Token) → words (records ts) ≡ flat ts
 unfolding words records flat
 words-records [] = refl
-words-records (t ∷ ts) = ap (λ (r : List ℕ). t .kind ∷ t .len ∷ t .suff ∷ r) (words-records ts)
+words-records (t ∷ ts) = ap (λ (r : List ℕ). t .kind ∷ t .len ∷ t .suffix ∷ r) (words-records ts)
 
 -- the row that is left, in words, is the list that `tokenize` leaves of the row's words
 flat-rowed : (s : List ℕ) (profile : ℕ) (row : List Token) → words (rowed s profile row) ≡ listed s profile (words row)

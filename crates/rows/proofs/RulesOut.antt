@@ -13,13 +13,13 @@ use Rattle.lists.specs.Eat.{eat}
 use Rattle.unicode.specs.Ranges.{inTable}
 use Rattle.ucd.specs.Ucd.{xidStart, xidContinue, emoji}
 use Rattle.unicode.specs.Utf8.{table, behind, begins, joined, readBy, first, next, chars, width, goodBytes, validUpTo}
-use Rattle.unicode.specs.Text.{bytes, skip}
+use Rattle.unicode.specs.Text.{byteLength, skip}
 use Rattle.text.specs.Answer.{checkText, checkCut}
 use Rattle.letters.specs.Chars.{whitespace}
 use Rattle.lexer.specs.Kinds.{marks, markIn}
-use Rattle.lexer.specs.Cut.{isDigit, advance, piece, tokens}
+use Rattle.lexer.specs.Cut.{isDigit, advance, nextToken, tokens}
 use Rattle.lexer.specs.Unicode.{unicode}
-use Rattle.lexer.specs.Outcome.{tokensOf, answerOf}
+use Rattle.lexer.specs.Promises.{tokensOf, answerOf}
 use Rattle.rows.specs.Rows.{records, rowed, Rowed, Bridged}
 use Rattle.rows.specs.declared.Token.{Token}
 
@@ -31,7 +31,7 @@ seven = record { kind = 7; len = 7; suffix = 7 }
 
 -- a semicolon in a row of two records: the first is its token, and the second is as it was
 leaves : rowed semicolon 0 (seven ∷ seven ∷ []) ≡ record { kind = 10; len = 1; suffix = 0 } ∷ seven ∷ []
-unfolding all pieces cut eat inTable xidStart xidContinue emoji table behind begins joined readBy first next chars width goodBytes validUpTo bytes skip checkText checkCut whitespace marks markIn unicode tokensOf answerOf isDigit advance piece tokens records rowed
+unfolding all pieces cut eat inTable xidStart xidContinue emoji table behind begins joined readBy first next chars width goodBytes validUpTo byteLength skip checkText checkCut whitespace marks markIn unicode tokensOf answerOf isDigit advance nextToken tokens records rowed
 leaves = refl
 
 -- nothing written

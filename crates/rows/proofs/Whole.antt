@@ -15,9 +15,10 @@ use Rattle.unicode.specs.Ranges.{flat}
 use Rattle.ucd.specs.Ucd.{xidStart, xidContinue, emoji}
 use Rattle.text.specs.Answer.{Answered, done, roomTooSmall, longest, checkText, checkCut}
 use Rattle.text.proofs.Checks.{cut-accepted}
-use Rattle.lexer.specs.Cut.{Letters, Tok, tokens}
+use Rattle.lexer.specs.Cut as cut
+use Rattle.lexer.specs.Cut.{Letters, tokens}
 use Rattle.lexer.specs.Unicode.{unicode, lent}
-use Rattle.lexer.specs.Outcome.{tokensOf, answerOf, Listed, run, front, TokenAt}
+use Rattle.lexer.specs.Promises.{tokensOf, answerOf, Listed, run, front, TokenAt}
 use Rattle.lexer.proofs.Unicode.{lent-is}
 use Rattle.lexer.proofs.Whole.{few-tokens}
 use Rattle.rows.specs.Rows.{recordOf, records, rowed, Rowed}
@@ -25,7 +26,7 @@ use Rattle.rows.specs.Steps.{recordAt, Judged, Filled}
 use Rattle.rows.specs.declared.Token.{Token}
 use Rattle.rows.proofs.Filling.{length-records}
 
-front-one : (l : List Tok) → front (take 1 l) ≡ front l
+front-one : (l : List cut.Token) → front (take 1 l) ≡ front l
 unfolding front
 front-one [] = refl
 front-one (t ∷ ts) = refl
@@ -36,13 +37,13 @@ unfolding run
 first-run u profile s at short = rw (le-ltb longest (length s) short, front-one (tokens u profile (left s at)))
 
 -- what `token_at` says, as a record
-pub token-at : {u : Letters} {profile : ℕ} {s : List ℕ} {at kind suff end : ℕ} → length s ≤ longest → TokenAt u profile s at kind suff end →
-    _≡_ {A = Token} (record { kind = kind; len = end - at; suffix = suff - at }) (recordAt u profile s at)
-token-at {u} {profile} {s} {at} {kind} {suff} {end} short a =
+pub token-at : {u : Letters} {profile : ℕ} {s : List ℕ} {at kind suffixAt end : ℕ} → length s ≤ longest → TokenAt u profile s at kind suffixAt end →
+    _≡_ {A = Token} (record { kind = kind; len = end - at; suffix = suffixAt - at }) (recordAt u profile s at)
+token-at {u} {profile} {s} {at} {kind} {suffixAt} {end} short a =
     let t = front (run u profile s at 1) in
-    let l : end - at ≡ t .len = omega (arith, a .place) in
-    let m : suff - at ≡ t .suff = omega (arith, a .start) in
-    rw (a .what, l, m) (first-run u profile s at short)
+    let l : end - at ≡ t .len = omega (arith, a .end-is) in
+    let m : suffixAt - at ≡ t .suffix = omega (arith, a .suffix-is) in
+    rw (a .kind-is, l, m) (first-run u profile s at short)
 
 -- ---- the checks
 -- of these no refusal is 4

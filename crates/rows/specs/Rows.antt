@@ -8,15 +8,15 @@ use lib.Dec.{eqb}
 use lib.ListN.{length, take, drop}
 use Rattle.lists.specs.Over.{over}
 use Rattle.text.specs.Answer.{Answered, done}
-use Rattle.lexer.specs.Cut.{Tok}
-use Rattle.lexer.specs.Outcome.{tokensOf, answerOf}
+use Rattle.lexer.specs.Cut as cut
+use Rattle.lexer.specs.Promises.{tokensOf, answerOf}
 use Rattle.rows.specs.declared.Token.{Token}
 
 -- the record of a token: its kind, its length in bytes, its suffix start
-abbrev pub recordOf : Tok → Token
-recordOf t = record { kind = t .kind; len = t .len; suffix = t .suff }
+abbrev pub recordOf : cut.Token → Token
+recordOf t = record { kind = t .kind; len = t .len; suffix = t .suffix }
 
-unfoldable pub records : List Tok → List Token
+unfoldable pub records : List cut.Token → List Token
 records [] = []
 records (t ∷ ts) = recordOf t ∷ records ts
 

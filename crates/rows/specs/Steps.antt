@@ -7,7 +7,7 @@ use lib.ListN.{length, drop, set}
 use Rattle.unicode.specs.Text.{left}
 use Rattle.text.specs.Answer.{done}
 use Rattle.lexer.specs.Cut.{Letters, tokens}
-use Rattle.lexer.specs.Outcome.{answerOf, tokensBy, front}
+use Rattle.lexer.specs.Promises.{answerOf, tokensBy, front}
 use Rattle.rows.specs.Rows.{recordOf, records}
 use Rattle.rows.specs.declared.Token.{Token}
 

@@ -10,17 +10,17 @@ use lib.Seq.{drop-drop}
 use borrow.Author.Tests.{le-ltb}
 use Rattle.text.specs.Answer.{longest}
 use Rattle.lexer.specs.Kinds.{eof}
-use Rattle.lexer.specs.Cut.{Letters, Tok}
-use Rattle.lexer.specs.Outcome.{run, front, TokenAt, tokensBy}
+use Rattle.lexer.specs.Cut.{Letters, Token}
+use Rattle.lexer.specs.Promises.{run, front, TokenAt, tokensBy}
 use Rattle.lexer.proofs.Whole.{one-start, one-end}
 use Rattle.tokens.specs.Members.{isCounted, memberOf, counted, membersBy}
-use Rattle.renewal.specs.Rules.{First, Cutter}
-use Rattle.renewal.proofs.Cutter.{cutter}
+use Rattle.renewal.specs.Rules.{First, Keyable}
+use Rattle.renewal.proofs.Keyable.{keyable}
 use Rattle.same.specs.Compare.{sights}
 use Rattle.same.specs.Steps.{memberAt, sightAt, membersFrom, sightsFrom, Ahead}
 
 -- ---- a token in front is counted, or is not
-module _ (t : Tok) (ts : List Tok) where
+module _ (t : Token) (ts : List Token) where
   counted-yes : (s : List ℕ) → isCounted (t .kind) ≡ true → counted s (t ∷ ts) ≡ memberOf s t ∷ counted (drop (t .len) s) ts
   unfolding counted
   counted-yes s e = rw (e, counted)
@@ -38,22 +38,22 @@ module _ (t : Tok) (ts : List Tok) where
   sights-no at e = rw (e, sights)
 
 -- ---- the token at a place
-same-token : (t : Tok) {k l m : ℕ} → k ≡ t .kind → l ≡ t .len → m ≡ t .suff → _≡_ {A = Tok} (record { kind = k; len = l; suff = m }) t
+same-token : (t : Token) {k l m : ℕ} → k ≡ t .kind → l ≡ t .len → m ≡ t .suffix → _≡_ {A = Token} (record { kind = k; len = l; suffix = m }) t
 same-token t e f g = rw (e, f, g)
 
-first-of : {cut : List ℕ → List Tok} → Cutter cut → (s : List ℕ) → 1 ≤ length s → First cut s
+first-of : {cut : List ℕ → List Token} → Keyable cut → (s : List ℕ) → 1 ≤ length s → First cut s
 first-of c [] h = absurd (omega arith)
 first-of c (a ∷ s) h = c .first a s
 
-module _ {u : Letters} {profile : ℕ} {s : List ℕ} {at kind suff end : ℕ} (short : length s ≤ longest) (h : at < length s) (a : TokenAt u profile s at kind suff end) where
-  abbrev tok : Tok
-  tok = record { kind = kind; len = end - at; suff = suff - at }
+module _ {u : Letters} {profile : ℕ} {s : List ℕ} {at kind suffixAt end : ℕ} (short : length s ≤ longest) (h : at < length s) (a : TokenAt u profile s at kind suffixAt end) where
+  abbrev tok : Token
+  tok = record { kind = kind; len = end - at; suffix = suffixAt - at }
 
-  abbrev cut : List ℕ → List Tok
+  abbrev cut : List ℕ → List Token
   cut = tokensBy u profile
 
   here : First cut (drop at s)
-  here = first-of (cutter u profile) (drop at s) (omega (arith, length-drop at s))
+  here = first-of (keyable u profile) (drop at s) (omega (arith, length-drop at s))
 
   here-is : front (run u profile s at 1) ≡ here .token
   unfolding run front
@@ -61,12 +61,12 @@ module _ {u : Letters} {profile : ℕ} {s : List ℕ} {at kind suff end : ℕ} (
 
   tok-is : tok ≡ here .token
   tok-is =
-      let l : end - at ≡ here .token .len = omega (arith, a .place, ap (λ (t : Tok). t .len) here-is) in
-      let m : suff - at ≡ here .token .suff = omega (arith, a .start, ap (λ (t : Tok). t .suff) here-is) in
-      same-token (here .token) (a .what ∙ ap (λ (t : Tok). t .kind) here-is) l m
+      let l : end - at ≡ here .token .len = omega (arith, a .end-is, ap (λ (t : Token). t .len) here-is) in
+      let m : suffixAt - at ≡ here .token .suffix = omega (arith, a .suffix-is, ap (λ (t : Token). t .suffix) here-is) in
+      same-token (here .token) (a .kind-is ∙ ap (λ (t : Token). t .kind) here-is) l m
 
   reach : at + (end - at) ≡ end
-  reach = omega (arith, a .place)
+  reach = omega (arith, a .end-is)
 
   far : drop (end - at) (drop at s) ≡ drop end s
   far = drop-drop (end - at) at s ∙ rw reach
@@ -75,12 +75,12 @@ module _ {u : Letters} {profile : ℕ} {s : List ℕ} {at kind suff end : ℕ} (
   view = here .view ∙ rw (← tok-is) (ap (λ (l : List ℕ). tok ∷ cut l) far)
 
   pub token-some : at < end
-  token-some = omega (arith, here .some, ap (λ (t : Tok). t .len) tok-is)
+  token-some = omega (arith, here .some, ap (λ (t : Token). t .len) tok-is)
 
   within : end ≤ length s
   within = omega (arith, one-end a .1)
 
-  members-yes : isCounted kind ≡ true → membersFrom cut s at ≡ memberAt s kind at suff end ∷ membersFrom cut s end
+  members-yes : isCounted kind ≡ true → membersFrom cut s at ≡ memberAt s kind at suffixAt end ∷ membersFrom cut s end
   unfolding membersBy
   members-yes e = rw view (counted-yes tok (cut (drop end s)) (drop at s) e ∙ rw far)
 
@@ -95,17 +95,17 @@ module _ {u : Letters} {profile : ℕ} {s : List ℕ} {at kind suff end : ℕ} (
   seen-no e = rw view (sights-no tok (cut (drop end s)) at e ∙ rw reach)
 
 -- ---- looking for it: what is counted from here on is what is counted from there on
-pub record Seeking (cut : List ℕ → List Tok) (s : List ℕ) (from at : ℕ) : Type 0 where
+pub record Seeking (cut : List ℕ → List Token) (s : List ℕ) (from at : ℕ) : Type 0 where
   pub after : from ≤ at
   pub within : at ≤ length s
   pub members : membersFrom cut s from ≡ membersFrom cut s at
   pub seen : sightsFrom cut s from ≡ sightsFrom cut s at
 
-pub seeking-none : (cut : List ℕ → List Tok) (s : List ℕ) (from : ℕ) → from ≤ length s → Seeking cut s from from
+pub seeking-none : (cut : List ℕ → List Token) (s : List ℕ) (from : ℕ) → from ≤ length s → Seeking cut s from from
 seeking-none cut s from h = record { after = omega arith; within = h; members = refl; seen = refl }
 
-module _ {u : Letters} {profile : ℕ} {s : List ℕ} {from at kind suff end : ℕ} (w : Seeking (tokensBy u profile) s from at) (short : length s ≤ longest) (h : at < length s) (a : TokenAt u profile s at kind suff end) where
-  pub seeking-found : {b : Bool} → b ≡ isCounted kind → b ≡ true → Ahead (tokensBy u profile) s from kind at suff end
+module _ {u : Letters} {profile : ℕ} {s : List ℕ} {from at kind suffixAt end : ℕ} (w : Seeking (tokensBy u profile) s from at) (short : length s ≤ longest) (h : at < length s) (a : TokenAt u profile s at kind suffixAt end) where
+  pub seeking-found : {b : Bool} → b ≡ isCounted kind → b ≡ true → Ahead (tokensBy u profile) s from kind at suffixAt end
   seeking-found b e =
       let c : isCounted kind ≡ true = sym b ∙ e in
       record {
@@ -128,7 +128,7 @@ module _ {u : Letters} {profile : ℕ} {s : List ℕ} {from at kind suff end : �
 pub seeking-end : (u : Letters) (profile : ℕ) {s : List ℕ} {from at : ℕ} → Seeking (tokensBy u profile) s from at → length s ≤ at → Ahead (tokensBy u profile) s from eof at at at
 unfolding membersBy counted sights
 seeking-end u profile {s} {from} {at} w h =
-    let z : tokensBy u profile (drop at s) ≡ [] = rw (drop-of-length-le s {i = at} h) (cutter u profile .none) in
+    let z : tokensBy u profile (drop at s) ≡ [] = rw (drop-of-length-le s {i = at} h) (keyable u profile .none) in
     record {
       place = record { before-suffix = omega arith; before-end = omega arith; within = w .within };
       after = w .after;

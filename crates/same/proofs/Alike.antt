@@ -34,7 +34,7 @@ bytes-same (a ∷ s) = rw (eq-eqb a a refl) (bytes-same s)
 
 -- ---- members
 abbrev make : ℕ → ℕ → ℕ → List ℕ → Member
-make k n s t = record { kind = k; len = n; suff = s; bytes = t }
+make k n s t = record { kind = k; len = n; suffix = s; bytes = t }
 
 made-equal : {k k′ n n′ s s′ : ℕ} {t t′ : List ℕ} → k ≡ k′ → n ≡ n′ → s ≡ s′ → t ≡ t′ → make k n s t ≡ make k′ n′ s′ t′
 made-equal a b c d = rw (a, b, c, d)
@@ -44,16 +44,16 @@ unfolding alike
 alike-equal m m′ e =
     let a = both (eqb (m .kind) (m′ .kind)) _ e in
     let b = both (eqb (m .len) (m′ .len)) _ (a .1) in
-    let d = both (eqb (m .suff) (m′ .suff)) _ (b .1) in
+    let d = both (eqb (m .suffix) (m′ .suffix)) _ (b .1) in
     let k : m .kind ≡ m′ .kind = eqb-true _ _ (a .0) in
     let l : m .len ≡ m′ .len = eqb-true _ _ (b .0) in
-    let u : m .suff ≡ m′ .suff = eqb-true _ _ (d .0) in
+    let u : m .suffix ≡ m′ .suffix = eqb-true _ _ (d .0) in
     let s : m .bytes ≡ m′ .bytes = bytes-equal (m .bytes) (m′ .bytes) (d .1) in
     made-equal k l u s
 
 pub alike-self : (m : Member) → alike m m ≡ true
 unfolding alike
-alike-self m = rw (eq-eqb (m .kind) (m .kind) refl, eq-eqb (m .len) (m .len) refl, eq-eqb (m .suff) (m .suff) refl) (bytes-same (m .bytes))
+alike-self m = rw (eq-eqb (m .kind) (m .kind) refl, eq-eqb (m .len) (m .len) refl, eq-eqb (m .suffix) (m .suffix) refl) (bytes-same (m .bytes))
 
 -- ---- as `are_alike` tests them
 module _ (m m′ : Member) {r : Bool} where
@@ -61,11 +61,11 @@ module _ (m m′ : Member) {r : Bool} where
   unfolding alike
   alike-kind n e = rw (ne-eqb _ _ n) e
 
-  pub alike-suff : (m .suff ≡ m′ .suff → ⊥) → r ≡ false → r ≡ alike m m′
+  pub alike-suff : (m .suffix ≡ m′ .suffix → ⊥) → r ≡ false → r ≡ alike m m′
   unfolding alike
   alike-suff n e = rw (ne-eqb _ _ n, and-false, and-false) e
 
-alike-by : (m m′ : Member) → m .kind ≡ m′ .kind → m .suff ≡ m′ .suff → length (m .bytes) ≡ m .len → length (m′ .bytes) ≡ m′ .len → alike m m′ ≡ sameBytes (m .bytes) (m′ .bytes)
+alike-by : (m m′ : Member) → m .kind ≡ m′ .kind → m .suffix ≡ m′ .suffix → length (m .bytes) ≡ m .len → length (m′ .bytes) ≡ m′ .len → alike m m′ ≡ sameBytes (m .bytes) (m′ .bytes)
 unfolding alike
 alike-by m m′ k u l l′ =
     by-test (sameBytes (m .bytes) (m′ .bytes))

@@ -12,14 +12,14 @@ use lib.Seq.{drop-drop, getD-drop}
 use borrow.Author.Tests.{eqb-true, eq-eqb, not-true, not-false}
 use Rattle.lists.proofs.Bools.{by-test, both}
 use Rattle.lexer.specs.Kinds.{eof}
-use Rattle.lexer.specs.Cut.{Tok}
+use Rattle.lexer.specs.Cut.{Token}
 use Rattle.tokens.specs.Members.{Member, membersBy}
-use Rattle.same.specs.Compare.{Sight, Compared, alike, agree, sights, endOf, same, different, partedBy}
-use Rattle.same.specs.Steps.{memberAt, sightAt, membersFrom, sightsFrom, Ahead, showing}
+use Rattle.same.specs.Compare.{Sight, Compared, alike, agree, sights, endOf, same, different, partedBy, showing}
+use Rattle.same.specs.Steps.{memberAt, sightAt, membersFrom, sightsFrom, Ahead}
 use Rattle.same.proofs.Alike.{alike-equal, alike-self, agree-more, agree-stop}
 
 -- ---- one text: the first counted token from a place on
-module _ {cut : List ℕ → List Tok} {s : List ℕ} {at kind start suff end : ℕ} (p : Ahead cut s at kind start suff end) where
+module _ {cut : List ℕ → List Token} {s : List ℕ} {at kind start suffixAt end : ℕ} (p : Ahead cut s at kind start suffixAt end) where
   pub ends : (start < end → ⊥) → start ≡ end
   ends n = omega (arith, p .place .before-end)
 
@@ -37,11 +37,11 @@ module _ {cut : List ℕ → List Tok} {s : List ℕ} {at kind start suff end : 
             rw (x .4, d, x .0, x .1)
       ])
 
-  none-member : start ≡ end → memberAt s kind start suff end ≡ record { kind = eof; len = 0; suff = 0; bytes = [] }
+  none-member : start ≡ end → memberAt s kind start suffixAt end ≡ record { kind = eof; len = 0; suffix = 0; bytes = [] }
   none-member h =
       let x = p .none h in
       let d : end - start ≡ 0 = omega arith in
-      let m : suff - start ≡ 0 = omega (arith, x .2) in
+      let m : suffixAt - start ≡ 0 = omega (arith, x .2) in
       rw (d, m, x .0)
 
   -- where nothing more is counted there is none
@@ -49,7 +49,7 @@ module _ {cut : List ℕ → List Tok} {s : List ℕ} {at kind start suff end : 
   none-left z = ends (λ h. omega (arith, ap length (p .some h .0)))
 
 -- ---- the walk: to go on from here comes to the same
-pub record Parting (cut : List ℕ → List Tok) (s s′ : List ℕ) (a b n : ℕ) : Type 0 where
+pub record Parting (cut : List ℕ → List Token) (s s′ : List ℕ) (a b n : ℕ) : Type 0 where
   pub few : n ≤ a
   pub within : a ≤ length s
   pub within′ : b ≤ length s′
@@ -59,17 +59,17 @@ pub record Parting (cut : List ℕ → List Tok) (s s′ : List ℕ) (a b n : �
   pub seen : drop n (sights 0 (cut s)) ≡ sightsFrom cut s a
   pub seen′ : drop n (sights 0 (cut s′)) ≡ sightsFrom cut s′ b
 
-pub parting-none : (cut : List ℕ → List Tok) (s s′ : List ℕ) → Parting cut s s′ 0 0 0
+pub parting-none : (cut : List ℕ → List Token) (s s′ : List ℕ) → Parting cut s s′ 0 0 0
 parting-none cut s s′ =
     record { few = omega arith; within = omega arith; within′ = omega arith; agreed = omega arith; count = omega arith; count′ = omega arith; seen = refl; seen′ = refl }
 
-module _ {cut : List ℕ → List Tok} {s s′ : List ℕ} {a b n kind start suff end kind′ start′ suff′ end′ : ℕ}
-    (w : Parting cut s s′ a b n) (p : Ahead cut s a kind start suff end) (q : Ahead cut s′ b kind′ start′ suff′ end′) where
+module _ {cut : List ℕ → List Token} {s s′ : List ℕ} {a b n kind start suffixAt end kind′ start′ suffixAt′ end′ : ℕ}
+    (w : Parting cut s s′ a b n) (p : Ahead cut s a kind start suffixAt end) (q : Ahead cut s′ b kind′ start′ suffixAt′ end′) where
   abbrev m : Member
-  m = memberAt s kind start suff end
+  m = memberAt s kind start suffixAt end
 
   abbrev m′ : Member
-  m′ = memberAt s′ kind′ start′ suff′ end′
+  m′ = memberAt s′ kind′ start′ suffixAt′ end′
 
   -- what is shown, where no more agree
   parted-is : (verdict : ℕ) → agree (membersFrom cut s a) (membersFrom cut s′ b) ≡ 0 → cond (eqb n (length (membersBy cut s)) && eqb n (length (membersBy cut s′))) same different ≡ verdict →
@@ -93,7 +93,7 @@ module _ {cut : List ℕ → List Tok} {s s′ : List ℕ} {a b n kind start suf
       ]
 
   none-alike : start ≡ end → start′ ≡ end′ → alike m m′ ≡ true
-  none-alike h h′ = rw (none-member p h, none-member q h′) (alike-self (record { kind = eof; len = 0; suff = 0; bytes = [] }))
+  none-alike h h′ = rw (none-member p h, none-member q h′) (alike-self (record { kind = eof; len = 0; suffix = 0; bytes = [] }))
 
   stop-verdict : alike m m′ ≡ false → (eqb n (length (membersBy cut s)) && eqb n (length (membersBy cut s′))) ≡ false
   stop-verdict e =

@@ -8,14 +8,14 @@ use mathlib.Core.List.{List, [], _∷_}
 use lib.ListN.{length, drop, getD}
 use lib.Seq.{drop-drop}
 use Rattle.lists.specs.All.{Each}
-use Rattle.lexer.specs.Cut.{Tok}
-use Rattle.lexer.specs.Outcome.{tokensOf}
+use Rattle.lexer.specs.Cut.{Token}
+use Rattle.lexer.specs.Promises.{tokensOf}
 use Rattle.tokens.specs.Tiling.{Formed}
 use Rattle.tokens.proofs.Tiling.{tiles}
 use Rattle.tokens.specs.Members.{Member, isCounted, memberOf, counted, membersBy, membersOf}
 use Rattle.same.specs.Compare.{Sight, sights, endOf, shows}
 
-shows-from : (s : List ℕ) (at : ℕ) (ts : List Tok) → Each Formed ts → shows s (sights at ts) (counted (drop at s) ts)
+shows-from : (s : List ℕ) (at : ℕ) (ts : List Token) → Each Formed ts → shows s (sights at ts) (counted (drop at s) ts)
 unfolding shows sights counted
 shows-from s at [] f = tt
 shows-from s at (t ∷ ts) f =

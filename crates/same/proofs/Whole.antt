@@ -14,7 +14,7 @@ use Rattle.ucd.specs.Ucd.{xidStart, xidContinue, emoji}
 use Rattle.text.specs.Answer.{Answered, done, checkCut}
 use Rattle.lexer.specs.Cut.{Letters}
 use Rattle.lexer.specs.Unicode.{lent}
-use Rattle.lexer.specs.Outcome.{tokensOf, tokensBy}
+use Rattle.lexer.specs.Promises.{tokensOf, tokensBy}
 use Rattle.lexer.proofs.Unicode.{lent-is}
 use Rattle.tokens.specs.Members.{Member, membersOf}
 use Rattle.renewal.specs.Key.{keyOfText}

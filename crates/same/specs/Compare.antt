@@ -8,8 +8,8 @@ use lib.Dec.{eqb}
 use lib.ListN.{length, take, drop, getD}
 use Rattle.text.specs.Answer.{done, checkCut}
 use Rattle.lexer.specs.Kinds.{eof}
-use Rattle.lexer.specs.Cut.{Tok}
-use Rattle.lexer.specs.Outcome.{tokensOf}
+use Rattle.lexer.specs.Cut.{Token}
+use Rattle.lexer.specs.Promises.{tokensOf}
 use Rattle.tokens.specs.Members.{Member, isCounted, membersBy}
 
 -- ---- how far two lists of counted tokens agree
@@ -21,7 +21,7 @@ sameBytes (a ∷ s) (b ∷ t) = eqb a b && sameBytes s t
 
 -- in kind, length, suffix start and bytes
 unfoldable pub alike : Member → Member → Bool
-alike m m′ = eqb (m .kind) (m′ .kind) && (eqb (m .len) (m′ .len) && (eqb (m .suff) (m′ .suff) && sameBytes (m .bytes) (m′ .bytes)))
+alike m m′ = eqb (m .kind) (m′ .kind) && (eqb (m .len) (m′ .len) && (eqb (m .suffix) (m′ .suffix) && sameBytes (m .bytes) (m′ .bytes)))
 
 -- how many agree, one by one from the first on: the length of the longest common beginning
 unfoldable pub agree : List Member → List Member → ℕ
@@ -37,7 +37,7 @@ pub record Sight : Type 0 where
   pub len : ℕ
 
 -- of tokens that lie one behind the other from a place on, the counted ones
-unfoldable pub sights : ℕ → List Tok → List Sight
+unfoldable pub sights : ℕ → List Token → List Sight
 sights at [] = []
 sights at (t ∷ ts) =
     elim (isCounted (t .kind)) [
@@ -70,19 +70,19 @@ pub record Comparison : Type 0 where
   pub old : Sight
   pub new : Sight
 
+-- the comparison of two texts that are accepted, which shows two such tokens
+abbrev pub showing : ℕ → ℕ → Sight → Sight → Comparison
+showing verdict agreed old new = record { verdict = verdict; refusal = (done, 0); agreed = agreed; old = old; new = new }
+
 -- of two texts that are accepted: the same where all of both agree; shown is what stands behind those that agree, or the end. Of any cutter
-unfoldable pub partedBy : (List ℕ → List Tok) → List ℕ → List ℕ → Comparison
+unfoldable pub partedBy : (List ℕ → List Token) → List ℕ → List ℕ → Comparison
 partedBy cutter s s′ =
     let m = membersBy cutter s in
     let m′ = membersBy cutter s′ in
     let n = agree m m′ in
-    record {
-      verdict = cond (eqb n (length m) && eqb n (length m′)) same different;
-      refusal = (done, 0);
-      agreed = n;
-      old = getD (sights 0 (cutter s)) n (endOf s);
-      new = getD (sights 0 (cutter s′)) n (endOf s′);
-    }
+    showing (cond (eqb n (length m) && eqb n (length m′)) same different) n
+    (getD (sights 0 (cutter s)) n (endOf s))
+    (getD (sights 0 (cutter s′)) n (endOf s′))
 
 abbrev pub nothing : Sight
 nothing = record { kind = 0; start = 0; len = 0 }

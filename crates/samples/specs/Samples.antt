@@ -3,9 +3,9 @@
 use Prim.Native.Nat.{ℕ}
 use mathlib.Core.List.{List, [], _∷_}
 use lib.ListN.{length}
-use Rattle.lexer.specs.Outcome.{answerOf, listed}
-use Rattle.unescape.specs.Outcome as bodies
-use Rattle.renewal.specs.Outcome as keys
+use Rattle.lexer.specs.Promises.{answerOf, listed}
+use Rattle.unescape.specs.Promises as bodies
+use Rattle.renewal.specs.Promises as keys
 
 -- a call: a text, a profile and the list that is lent; a body, a mode and the list; or a text, a profile and the bytes for its key
 pub data Call : Type 0 where
@@ -26,11 +26,11 @@ pub record Sample : Type 0 where
 
 -- a text under profile 0 with room for two records, which is one token
 abbrev one : List ℕ → ℕ → ℕ → ℕ → Sample
-one text kind len suff =
+one text kind len suffix =
     record {
       call = tokenize text 0 (7 ∷ 7 ∷ 7 ∷ 7 ∷ 7 ∷ 7 ∷ []);
       answer = (0, 1);
-      after = kind ∷ len ∷ suff ∷ 7 ∷ 7 ∷ 7 ∷ [];
+      after = kind ∷ len ∷ suffix ∷ 7 ∷ 7 ∷ 7 ∷ [];
     }
 
 unfoldable pub samples : List Sample

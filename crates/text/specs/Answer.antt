@@ -38,7 +38,10 @@ infixr 20 _andThen_
 abbrev pub _andThen_ : ℕ × ℕ → ℕ × ℕ → ℕ × ℕ
 x andThen y = cond (eqb (x .0) done) y x
 
--- the profiles that are known: 0 and 1
+-- the profile of a caller that names none, and the profiles that are known: 0 and 1
+abbrev pub defaultProfile : ℕ
+defaultProfile = 0
+
 abbrev pub knownProfile : ℕ → Bool
 knownProfile p = ltb p 2
 

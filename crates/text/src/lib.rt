@@ -1,5 +1,6 @@
 // What an entry that can refuse answers, and the checks that it begins with.
-ghost use Rattle.text.specs.Answer.{Answered, checkText, checkCut};
+ghost use mathlib.Core.Path.{_≡_};
+ghost use Rattle.text.specs.Answer.{Answered, defaultProfile, checkText, checkCut};
 use unicode::utf8::valid_up_to;
 
 // The number says how a call went, and `also` what comes with it.
@@ -26,6 +27,13 @@ pub const LONGEST: usize = 4294967295;
 pub const DEFAULT_PROFILE: u32 = 0;
 
 pub const PROFILES: u32 = 2;
+
+// The profile of a caller that names none.
+pub fn default_profile() -> u32
+    ensures { λ r. ⌜ r ≡ defaultProfile ⌝ }
+{
+    DEFAULT_PROFILE
+}
 
 // Refusal 2 for a text that is too long, then 3 for one that is not UTF-8, else 0; it writes nothing.
 pub fn check_text(text: &[u8]) -> Answer

@@ -12,16 +12,16 @@ use borrow.Author.Tests.{eq-eqb, ne-eqb, eqb-true, eqb-false}
 use Rattle.lists.proofs.Bools.{by-test, and-false, on-cond}
 use Rattle.lists.proofs.Cut.{by-length}
 use Rattle.unicode.specs.Utf8.{first, chars, width}
-use Rattle.unicode.specs.Text.{bytes, skip}
+use Rattle.unicode.specs.Text.{byteLength, skip}
 use Rattle.unicode.proofs.Text.{chars-nil, chars-first, bytes-chars, ends-bytes, skip-more}
 use Rattle.unicode.proofs.Ascii.{skip-bytes}
 use Rattle.unicode.specs.Ranges.{inTable}
 use Rattle.ucd.specs.Ucd.{xidStart, xidContinue}
 use Rattle.letters.specs.Chars.{isWhitespace, whitespace}
 use Rattle.lexer.specs.Kinds.{ident, invalidIdent}
-use Rattle.lexer.specs.Cut.{Letters, Tok, peek, notLf, agree, pragmaWord, wideEmoji, name, word, advance, piece, tokens, total}
+use Rattle.lexer.specs.Cut.{Letters, Token, peek, notLf, agree, pragmaWord, wideEmoji, name, word, advance, nextToken, tokens, total}
 use Rattle.lexer.specs.Unicode.{unicode}
-use Rattle.lexer.specs.Outcome.{tokensOf}
+use Rattle.lexer.specs.Promises.{tokensOf}
 use Rattle.lexer.proofs.Shapes.{name-part, tokens-nil}
 use Rattle.tokens.specs.Profiles.{bare, bareIn, pragmaLine, Parting}
 use Rattle.tokens.proofs.First.{tokens-first, first-some}
@@ -36,7 +36,7 @@ unfolding advance word
 elsewhere u c t h = rw h
 
 -- and no bare pragma stands there
-not-bare : (s : List ℕ) (t : Tok) → eqb (agree pragmaWord (chars s)) 6 ≡ false → bare s t ≡ false
+not-bare : (s : List ℕ) (t : Token) → eqb (agree pragmaWord (chars s)) 6 ≡ false → bare s t ≡ false
 not-bare s t h =
     let n : agree pragmaWord (take (t .len) s) ≡ 6 → ⊥ =
     λ e. eqb-false (agree pragmaWord (chars s)) 6 h (omega (arith, agree-take pragmaWord (t .len) s, pragma-agrees s, agree-most pragmaWord s)) in
@@ -55,7 +55,7 @@ letters-more : (unicode .more 0x72 ≡ true) × (unicode .more 0x61 ≡ true) ×
 unfolding unicode xidContinue inTable
 letters-more = (refl, refl, refl, refl)
 
-advance-p : (profile : ℕ) (t : List ℕ) → advance unicode profile 0x70 t ≡ record { kind = word unicode profile 0x70 t .0; suff = 0x70 ∷ t; rest = word unicode profile 0x70 t .1 }
+advance-p : (profile : ℕ) (t : List ℕ) → advance unicode profile 0x70 t ≡ record { kind = word (unicode .more) (unicode .emoji) profile 0x70 t .0; fromSuffix = 0x70 ∷ t; rest = word (unicode .more) (unicode .emoji) profile 0x70 t .1 }
 unfolding advance
 advance-p profile t = rw (p-space, p-start)
 
@@ -64,7 +64,7 @@ module _ (r : List ℕ) where
   abbrev letters : List ℕ
   letters = 0x72 ∷ 0x61 ∷ 0x67 ∷ 0x6D ∷ 0x61 ∷ r
 
-  name-letters : name unicode letters ≡ name unicode r
+  name-letters : name (unicode .more) (unicode .emoji) letters ≡ name (unicode .more) (unicode .emoji) r
   unfolding name
   name-letters =
       let m = letters-more in
@@ -77,36 +77,36 @@ module _ (r : List ℕ) where
       rw e
 
   -- under profile 0 an Ident or InvalidIdent of at least six bytes
-  name-kind : (eqb (name unicode r .0) ident || eqb (name unicode r .0) invalidIdent) ≡ true
+  name-kind : (eqb (name (unicode .more) (unicode .emoji) r .0) ident || eqb (name (unicode .more) (unicode .emoji) r .0) invalidIdent) ≡ true
   unfolding name
   name-kind =
-      on-cond (λ (x : ℕ × List ℕ). (eqb (x .0) ident || eqb (x .0) invalidIdent) ≡ true) (wideEmoji unicode (peek (skip (unicode .more) r))) refl refl
+      on-cond (λ (x : ℕ × List ℕ). (eqb (x .0) ident || eqb (x .0) invalidIdent) ≡ true) (wideEmoji (unicode .emoji) (peek (skip (unicode .more) r))) refl refl
 
-  zero-is : piece unicode 0 0x70 letters .0 ≡ record { kind = name unicode r .0; len = bytes (0x70 ∷ letters) - bytes (name unicode r .1); suff = bytes (0x70 ∷ letters) - bytes (0x70 ∷ letters) }
-  unfolding piece word
+  zero-is : nextToken unicode 0 0x70 letters .0 ≡ record { kind = name (unicode .more) (unicode .emoji) r .0; len = byteLength (0x70 ∷ letters) - byteLength (name (unicode .more) (unicode .emoji) r .1); suffix = byteLength (0x70 ∷ letters) - byteLength (0x70 ∷ letters) }
+  unfolding nextToken word
   zero-is = rw (advance-p 0 letters, name-letters)
 
-  zero-long : 6 ≤ bytes (0x70 ∷ letters) - bytes (name unicode r .1)
-  unfolding bytes width
+  zero-long : 6 ≤ byteLength (0x70 ∷ letters) - byteLength (name (unicode .more) (unicode .emoji) r .1)
+  unfolding byteLength width
   zero-long = omega (arith, ends-bytes (name-part unicode r .ends))
 
-  zero-bare : (s : List ℕ) → chars s ≡ 0x70 ∷ letters → bare s (piece unicode 0 0x70 letters .0) ≡ true
+  zero-bare : (s : List ℕ) → chars s ≡ 0x70 ∷ letters → bare s (nextToken unicode 0 0x70 letters .0) ≡ true
   unfolding agree
   zero-bare s e =
-      let n = bytes (0x70 ∷ letters) - bytes (name unicode r .1) in
+      let n = byteLength (0x70 ∷ letters) - byteLength (name (unicode .more) (unicode .emoji) r .1) in
       let six : agree pragmaWord s ≡ 6 = sym (pragma-agrees s) ∙ ap (agree pragmaWord) e in
       let h : agree pragmaWord (take n s) ≡ 6 = omega (arith, agree-take pragmaWord n s, zero-long) in
       rw (zero-is, name-kind) (eq-eqb (agree pragmaWord (take n s)) 6 h)
 
   -- under profile 1 a Pragma of the line
-  one-is : (s : List ℕ) → chars s ≡ 0x70 ∷ letters → piece unicode 1 0x70 letters .0 ≡ pragmaLine s
-  unfolding piece word agree notLf
+  one-is : (s : List ℕ) → chars s ≡ 0x70 ∷ letters → nextToken unicode 1 0x70 letters .0 ≡ pragmaLine s
+  unfolding nextToken word agree notLf
   one-is s e =
       let all : (c : ℕ) → 0x80 ≤ c → notLf c ≡ true = λ c h. rw (ne-eqb c 0x0A (λ q. omega arith)) in
-      let line : bytes (skip notLf letters) ≡ length (skip notLf s) =
-      ap bytes (sym (skip-more notLf 0x70 letters refl) ∙ ap (skip notLf) (sym e) ∙ skip-bytes notLf all s) ∙ bytes-chars (skip notLf s) in
-      let long : bytes (0x70 ∷ letters) ≡ length s = ap bytes (sym e) ∙ bytes-chars s in
-      let none : bytes (0x70 ∷ letters) - bytes (0x70 ∷ letters) ≡ 0 = omega arith in
+      let line : byteLength (skip notLf letters) ≡ length (skip notLf s) =
+      ap byteLength (sym (skip-more notLf 0x70 letters refl) ∙ ap (skip notLf) (sym e) ∙ skip-bytes notLf all s) ∙ bytes-chars (skip notLf s) in
+      let long : byteLength (0x70 ∷ letters) ≡ length s = ap byteLength (sym e) ∙ bytes-chars s in
+      let none : byteLength (0x70 ∷ letters) - byteLength (0x70 ∷ letters) ≡ 0 = omega arith in
       rw (advance-p 1 letters, line, none, long)
 
 -- ---- the two lists, from the first token on
@@ -115,12 +115,12 @@ record Related (s : List ℕ) : Type 0 where
   parting : bareIn s (tokensOf 0 s) ≡ true → Parting s (tokensOf 0 s) (tokensOf 1 s)
 
 -- one token that is not bare in front of both
-later : (s : List ℕ) (t : Tok) → bare s t ≡ false → tokensOf 0 s ≡ t ∷ tokensOf 0 (drop (t .len) s) → tokensOf 1 s ≡ t ∷ tokensOf 1 (drop (t .len) s) → Related (drop (t .len) s) → Related s
+later : (s : List ℕ) (t : Token) → bare s t ≡ false → tokensOf 0 s ≡ t ∷ tokensOf 0 (drop (t .len) s) → tokensOf 1 s ≡ t ∷ tokensOf 1 (drop (t .len) s) → Related (drop (t .len) s) → Related s
 later s t b z o h =
     let rest = drop (t .len) s in
     let e : bareIn s (tokensOf 0 s) ≡ bareIn rest (tokensOf 0 rest) = ap (bareIn s) z ∙ rw b in
     record {
-      same = λ n. o ∙ ap (λ (l : List Tok). t ∷ l) (h .same (sym e ∙ n)) ∙ sym z;
+      same = λ n. o ∙ ap (λ (l : List Token). t ∷ l) (h .same (sym e ∙ n)) ∙ sym z;
       parting = λ y.
           let p = h .parting (sym e ∙ y) in
           let far : drop (total (p .before)) rest ≡ drop (total (t ∷ p .before)) s = drop-drop (total (p .before)) (t .len) s in
@@ -129,15 +129,15 @@ later s t b z o h =
             token = p .token;
             after = p .after;
             other = p .other;
-            is = z ∙ ap (λ (l : List Tok). t ∷ l) (p .is);
+            is = z ∙ ap (λ (l : List Token). t ∷ l) (p .is);
             none-before = ap (λ (x : Bool). x || bareIn rest (p .before)) b ∙ p .none-before;
             here = ap (λ (l : List ℕ). bare l (p .token)) (sym far) ∙ p .here;
-            there = o ∙ ap (λ (l : List Tok). t ∷ l) (p .there) ∙ ap (λ (l : List ℕ). t ∷ (p .before ++ pragmaLine l ∷ p .other)) far;
+            there = o ∙ ap (λ (l : List Token). t ∷ l) (p .there) ∙ ap (λ (l : List ℕ). t ∷ (p .before ++ pragmaLine l ∷ p .other)) far;
           };
     }
 
 -- a bare pragma in front of the one, and a Pragma of the line in front of the other
-here-parting : (s : List ℕ) (t : Tok) (after other : List Tok) → bare s t ≡ true → tokensOf 0 s ≡ t ∷ after → tokensOf 1 s ≡ pragmaLine s ∷ other → Related s
+here-parting : (s : List ℕ) (t : Token) (after other : List Token) → bare s t ≡ true → tokensOf 0 s ≡ t ∷ after → tokensOf 1 s ≡ pragmaLine s ∷ other → Related s
 here-parting s t after other b z o =
     record {
       same = λ n. absurd (false≢true (sym n ∙ ap (bareIn s) z ∙ rw b));
@@ -145,7 +145,7 @@ here-parting s t after other b z o =
     }
 
 step : (a : ℕ) (s : List ℕ) → ((l : List ℕ) → length l ≤ length s → Related l) → Related (a ∷ s)
-unfolding tokensOf piece
+unfolding tokensOf nextToken
 step a s ih =
     let c = first (a ∷ s) .0 in
     let t = chars (drop (first (a ∷ s) .1) (a ∷ s)) in
@@ -154,14 +154,14 @@ step a s ih =
     (λ y.
     let e : c ∷ t ≡ pragmaWord ++ drop 6 (c ∷ t) = agree-all pragmaWord (c ∷ t) (eqb-true (agree pragmaWord (c ∷ t)) 6 y) in
     let r = drop 6 (c ∷ t) in
-    here-parting (a ∷ s) (piece unicode 0 0x70 (letters r) .0) _ _ (zero-bare r (a ∷ s) (v ∙ e))
+    here-parting (a ∷ s) (nextToken unicode 0 0x70 (letters r) .0) _ _ (zero-bare r (a ∷ s) (v ∙ e))
     (tokens-first unicode 0 0x70 (letters r) (a ∷ s) (v ∙ e))
-    (tokens-first unicode 1 0x70 (letters r) (a ∷ s) (v ∙ e) ∙ ap (λ (x : Tok). x ∷ tokensOf 1 (drop (x .len) (a ∷ s))) (one-is r (a ∷ s) (v ∙ e))))
+    (tokens-first unicode 1 0x70 (letters r) (a ∷ s) (v ∙ e) ∙ ap (λ (x : Token). x ∷ tokensOf 1 (drop (x .len) (a ∷ s))) (one-is r (a ∷ s) (v ∙ e))))
     (λ n.
-    let k = piece unicode 0 c t .0 in
-    let same : piece unicode 1 c t .0 ≡ k = rw (elsewhere unicode c t n) in
+    let k = nextToken unicode 0 c t .0 in
+    let same : nextToken unicode 1 c t .0 ≡ k = rw (elsewhere unicode c t n) in
     let one : tokensOf 1 (a ∷ s) ≡ k ∷ tokensOf 1 (drop (k .len) (a ∷ s)) =
-    tokens-first unicode 1 c t (a ∷ s) v ∙ ap (λ (x : Tok). x ∷ tokensOf 1 (drop (x .len) (a ∷ s))) same in
+    tokens-first unicode 1 c t (a ∷ s) v ∙ ap (λ (x : Token). x ∷ tokensOf 1 (drop (x .len) (a ∷ s))) same in
     later (a ∷ s) k (not-bare (a ∷ s) k (ap (λ (l : List ℕ). eqb (agree pragmaWord l) 6) v ∙ n)) (tokens-first unicode 0 c t (a ∷ s) v) one
     (ih (drop (k .len) (a ∷ s)) (omega (arith, length-drop (k .len) (a ∷ s), first-some unicode 0 c t))))
 

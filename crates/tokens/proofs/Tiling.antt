@@ -12,13 +12,13 @@ use Rattle.lists.proofs.Bools.{both, or-true}
 use Rattle.lists.proofs.Cut.{by-length}
 use Rattle.lists.proofs.Ends.{ends-length}
 use Rattle.unicode.specs.Utf8.{chars}
-use Rattle.unicode.specs.Text.{bytes}
+use Rattle.unicode.specs.Text.{byteLength}
 use Rattle.unicode.proofs.Text.{bytes-chars, ends-bytes}
 use Rattle.unicode.proofs.Valid.{width-some}
 use Rattle.lexer.specs.Kinds.{isPlain, isLiteral}
-use Rattle.lexer.specs.Cut.{Letters, Token, advance, piece, tokens}
+use Rattle.lexer.specs.Cut.{Letters, Piece, advance, nextToken, tokens}
 use Rattle.lexer.specs.Unicode.{unicode}
-use Rattle.lexer.specs.Outcome.{tokensOf}
+use Rattle.lexer.specs.Promises.{tokensOf}
 use Rattle.lexer.proofs.Shapes.{Shape, plain, literal, advance-shape, ends-advance, tokens-nil, tokens-cons}
 use Rattle.tokens.specs.Tiling.{Formed, Tiles}
 
@@ -30,14 +30,14 @@ not-both k p l =
     omega (arith, leb-true k 37 a, leb-true 40 k b)
 
 -- the record of a token of that shape
-pub formed-of : (c : ℕ) (t : List ℕ) (a : Token) → Shape c t a →
-    Formed (record { kind = a .kind; len = bytes (c ∷ t) - bytes (a .rest); suff = bytes (c ∷ t) - bytes (a .suff) })
-unfolding bytes
+pub formed-of : (c : ℕ) (t : List ℕ) (a : Piece) → Shape c t a →
+    Formed (record { kind = a .kind; len = byteLength (c ∷ t) - byteLength (a .rest); suffix = byteLength (c ∷ t) - byteLength (a .fromSuffix) })
+unfolding byteLength
 formed-of c t a (plain k m e) =
     record {
       listed = rw k;
       some = omega (arith, width-some c, ends-bytes e);
-      plain = λ h. omega (arith, ap bytes m);
+      plain = λ h. omega (arith, ap byteLength m);
       literal = λ h. absurd (not-both (a .kind) k h);
     }
 formed-of c t a (literal k m e) =
@@ -49,17 +49,17 @@ formed-of c t a (literal k m e) =
     }
 
 module _ (u : Letters) (profile : ℕ) where
-  tiles-cons : (c : ℕ) (t : List ℕ) → Tiles (tokens u profile (advance u profile c t .rest)) (bytes (advance u profile c t .rest)) → Tiles (tokens u profile (c ∷ t)) (bytes (c ∷ t))
-  unfolding piece bytes
+  tiles-cons : (c : ℕ) (t : List ℕ) → Tiles (tokens u profile (advance u profile c t .rest)) (byteLength (advance u profile c t .rest)) → Tiles (tokens u profile (c ∷ t)) (byteLength (c ∷ t))
+  unfolding nextToken byteLength
   tiles-cons c t h =
       let a = advance u profile c t in
       rw (tokens-cons u profile c t)
       (record { each = (formed-of c t a (advance-shape u profile c t), h .each); all = omega (arith, h .all, ends-bytes (ends-advance u profile c t)) })
 
-  pub tiles-chars : (l : List ℕ) → Tiles (tokens u profile l) (bytes l)
-  unfolding bytes
+  pub tiles-chars : (l : List ℕ) → Tiles (tokens u profile l) (byteLength l)
+  unfolding byteLength
   tiles-chars =
-      by-length (λ (l : List ℕ). Tiles (tokens u profile l) (bytes l)) (rw (tokens-nil u profile) (record { each = tt; all = refl }))
+      by-length (λ (l : List ℕ). Tiles (tokens u profile l) (byteLength l)) (rw (tokens-nil u profile) (record { each = tt; all = refl }))
       (λ c t ih. tiles-cons c t (ih (advance u profile c t .rest) (ends-length (ends-advance u profile c t))))
 
 -- ---- the theorem: each token of a text has a kind that is listed and at least one byte, the suffix start of its kind, and the lengths add

@@ -6,13 +6,13 @@ use Prim.Native.Nat.{ℕ}
 use lib.Dec.{eqb}
 use lib.ListN.{take, drop}
 use Rattle.lexer.specs.Kinds.{lineComment, blockComment, whitespaceKind}
-use Rattle.lexer.specs.Cut.{Tok}
-use Rattle.lexer.specs.Outcome.{tokensOf}
+use Rattle.lexer.specs.Cut.{Token}
+use Rattle.lexer.specs.Promises.{tokensOf}
 
 pub record Member : Type 0 where
   pub kind : ℕ
   pub len : ℕ
-  pub suff : ℕ
+  pub suffix : ℕ
   pub bytes : List ℕ
 
 -- line comments, closed block comments and white space are uncounted; all others count, an unclosed comment too
@@ -20,11 +20,11 @@ unfoldable pub isCounted : ℕ → Bool
 isCounted k = not (eqb k lineComment || (eqb k blockComment || eqb k whitespaceKind))
 
 -- the token t that the text s begins with
-abbrev pub memberOf : List ℕ → Tok → Member
-memberOf s t = record { kind = t .kind; len = t .len; suff = t .suff; bytes = take (t .len) s }
+abbrev pub memberOf : List ℕ → Token → Member
+memberOf s t = record { kind = t .kind; len = t .len; suffix = t .suffix; bytes = take (t .len) s }
 
 -- the counted ones of tokens that lie in the text s one behind the other
-unfoldable pub counted : List ℕ → List Tok → List Member
+unfoldable pub counted : List ℕ → List Token → List Member
 counted s [] = []
 counted s (t ∷ ts) =
     elim (isCounted (t .kind)) [
@@ -33,7 +33,7 @@ counted s (t ∷ ts) =
     ]
 
 -- of any cutter, which gives the tokens of a text from its bytes
-unfoldable pub membersBy : (List ℕ → List Tok) → List ℕ → List Member
+unfoldable pub membersBy : (List ℕ → List Token) → List ℕ → List Member
 membersBy cutter s = counted s (cutter s)
 
 -- of the profiles' own cutter

@@ -6,16 +6,16 @@ use mathlib.Core.Bool.{true, _||_}
 use mathlib.Core.List.{List}
 use Rattle.lists.specs.All.{Each}
 use Rattle.lexer.specs.Kinds.{isPlain, isLiteral}
-use Rattle.lexer.specs.Cut.{Tok, total}
+use Rattle.lexer.specs.Cut.{Token, total}
 
 -- a token's record: it has a kind that is listed and at least one byte; suffix start 0 unless it is a literal, else between 1 and its length
-pub record Formed (t : Tok) : Type 0 where
+pub record Formed (t : Token) : Type 0 where
   pub listed : (isPlain (t .kind) || isLiteral (t .kind)) ≡ true
   pub some : 1 ≤ t .len
-  pub plain : (isPlain (t .kind) ≡ true → t .suff ≡ 0)
-  pub literal : (isLiteral (t .kind) ≡ true → (1 ≤ t .suff) × (t .suff ≤ t .len))
+  pub plain : (isPlain (t .kind) ≡ true → t .suffix ≡ 0)
+  pub literal : (isLiteral (t .kind) ≡ true → (1 ≤ t .suffix) × (t .suffix ≤ t .len))
 
 -- the tokens of a text of so many bytes tile it
-pub record Tiles (ts : List Tok) (bytes : ℕ) : Type 0 where
+pub record Tiles (ts : List Token) (bytes : ℕ) : Type 0 where
   pub each : Each Formed ts
   pub all : total ts ≡ bytes

@@ -1,6 +1,7 @@
 -- A binary search in a list of numbers that are to be the low and the high end of each range in turn: what it answers on any list, sorted or not. Of
 -- an odd number of them the last is never asked.
--- On a table's own list that is membership in the table (`proofs/Search.antt`).
+-- On a table's own list that is membership in the table (`proofs/Search.antt`): how the search goes, and that it looks among the first 32 ranges
+-- first (`among`), is for speed, and is fixed here only because a lent list that is no table has to have one answer too.
 -- Assumes nothing.
 use mathlib.Core.Bool.{Bool, false, cond, _&&_}
 use mathlib.Core.List.{List}

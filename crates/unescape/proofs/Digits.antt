@@ -9,10 +9,10 @@ use mathlib.Core.List.{List}
 use lib.ListN.{length, getD}
 use lib.Dec.{eqb, ltb}
 use borrow.Author.Tests.{lt-leb, ltb-true, ltb-false, ne-eqb, not-false}
-use Rattle.lists.specs.Values.{valuesFrom}
+use Rattle.lists.specs.Steps.{valuesFrom}
 use Rattle.lists.proofs.Bools.{by-test, and-false}
 use Rattle.lists.proofs.Values.{values-at}
-use Rattle.unicode.specs.Text.{Ate}
+use Rattle.unicode.specs.Steps.{Ate}
 use Rattle.unicode.proofs.Ascii.{Going, going-none, going-on, going-halt, going-end}
 use Rattle.unescape.specs.Escapes.{toDigit, orUnderscore, countDigit, valued, addDigit}
 use Rattle.unescape.specs.Steps.{digitValues}

@@ -8,7 +8,8 @@ use mathlib.Core.Bool.{Bool}
 use mathlib.Core.List.{List}
 use lib.ListN.{length}
 use borrow.Author.Tests.{lt-ltb, le-ltb, ne-eqb}
-use Rattle.unicode.specs.Text.{Decoded, Ate}
+use Rattle.unicode.specs.Text.{Decoded}
+use Rattle.unicode.specs.Steps.{Ate}
 use Rattle.unicode.proofs.Text.{decoded-end}
 use Rattle.unescape.specs.declared.escapes.Escape.{Escape}
 use Rattle.unescape.specs.declared.escapes.Escape.the-variants.{Value, Error}
@@ -28,13 +29,13 @@ module _ {s : List ℕ} {at : ℕ} where
     unfolding firstDigit
     first-none = scanned-end firstDigit refl h k
 
-    pub closing-none : (isByte : Bool) (d : ℕ × ℕ) → Scanned (closing isByte d) s at (Error 14 at)
+    pub closing-none : (asciiOnly : Bool) (d : ℕ × ℕ) → Scanned (closing asciiOnly d) s at (Error 14 at)
     unfolding closing
-    closing-none isByte d = scanned-end (closing isByte d) refl h k
+    closing-none asciiOnly d = scanned-end (closing asciiOnly d) refl h k
 
-    pub escape-none : (isByte : Bool) → Scanned (escape isByte) s at (Error 3 at)
+    pub escape-none : (asciiOnly : Bool) → Scanned (escape asciiOnly) s at (Error 3 at)
     unfolding escape
-    escape-none isByte = scanned-end (escape isByte) refl h k
+    escape-none asciiOnly = scanned-end (escape asciiOnly) refl h k
 
   -- ---- by one character
   module _ {code wide end : ℕ} (d : Decoded s at code wide) (l : at < length s) (u : end ≡ at + wide) where
@@ -68,26 +69,26 @@ module _ {s : List ℕ} {at : ℕ} where
     unfolding firstDigit
     first-brace h = scanned-char firstDigit d l u (error 13) (λ t. rw h) refl
 
-    pub closing-bad : (isByte : Bool) (x : ℕ × ℕ) → (code ≡ 0x7D → ⊥) → Scanned (closing isByte x) s at (Error 12 end)
+    pub closing-bad : (asciiOnly : Bool) (x : ℕ × ℕ) → (code ≡ 0x7D → ⊥) → Scanned (closing asciiOnly x) s at (Error 12 end)
     unfolding closing
-    closing-bad isByte x n = scanned-char (closing isByte x) d l u (error 12) (λ t. rw (ne-eqb code 0x7D n)) refl
+    closing-bad asciiOnly x n = scanned-char (closing asciiOnly x) d l u (error 12) (λ t. rw (ne-eqb code 0x7D n)) refl
 
-    pub closing-fine : (isByte : Bool) (n v : ℕ) {r : Escape} → code ≡ 0x7D → r ≡ escapeAt (codePoint isByte n v) end → Scanned (closing isByte (n, v)) s at r
+    pub closing-fine : (asciiOnly : Bool) (n v : ℕ) {r : Escape} → code ≡ 0x7D → r ≡ escapeAt (codePoint asciiOnly n v) end → Scanned (closing asciiOnly (n, v)) s at r
     unfolding closing
-    closing-fine isByte n v h e = scanned-char (closing isByte (n, v)) d l u (codePoint isByte n v) (λ t. rw h) e
+    closing-fine asciiOnly n v h e = scanned-char (closing asciiOnly (n, v)) d l u (codePoint asciiOnly n v) (λ t. rw h) e
 
-    pub escape-hex : (isByte : Bool) {r : Escape} → code ≡ 0x78 → Scanned hexEscape s end r → Scanned (escape isByte) s at r
+    pub escape-hex : (asciiOnly : Bool) {r : Escape} → code ≡ 0x78 → Scanned hexEscape s end r → Scanned (escape asciiOnly) s at r
     unfolding escape
-    escape-hex isByte h q = scanned-on (escape isByte) d l u hexEscape (λ t. rw h) q
+    escape-hex asciiOnly h q = scanned-on (escape asciiOnly) d l u hexEscape (λ t. rw h) q
 
-    pub escape-unicode : (isByte : Bool) {r : Escape} → code ≡ 0x75 → Scanned (unicodeEscape isByte) s end r → Scanned (escape isByte) s at r
+    pub escape-unicode : (asciiOnly : Bool) {r : Escape} → code ≡ 0x75 → Scanned (unicodeEscape asciiOnly) s end r → Scanned (escape asciiOnly) s at r
     unfolding escape
-    escape-unicode isByte h q = scanned-on (escape isByte) d l u (unicodeEscape isByte) (λ t. rw h) q
+    escape-unicode asciiOnly h q = scanned-on (escape asciiOnly) d l u (unicodeEscape asciiOnly) (λ t. rw h) q
 
-    pub escape-simple : (isByte : Bool) {r : Escape} → (code ≡ 0x78 → ⊥) → (code ≡ 0x75 → ⊥) → r ≡ escapeAt (simple code) end → Scanned (escape isByte) s at r
+    pub escape-simple : (asciiOnly : Bool) {r : Escape} → (code ≡ 0x78 → ⊥) → (code ≡ 0x75 → ⊥) → r ≡ escapeAt (simple code) end → Scanned (escape asciiOnly) s at r
     unfolding escape
-    escape-simple isByte n m e =
-        scanned-char (escape isByte) d l u (simple code) (λ t. rw (ne-eqb code 0x78 n, ne-eqb code 0x75 m)) e
+    escape-simple asciiOnly n m e =
+        scanned-char (escape asciiOnly) d l u (simple code) (λ t. rw (ne-eqb code 0x78 n, ne-eqb code 0x75 m)) e
 
   -- ---- two digits of \x
   module _ {r : Escape} (q : Scanned hexDigit s at r) where
@@ -115,40 +116,40 @@ module _ {s : List ℕ} {at : ℕ} where
           (rw e (record { what = refl; place = record { after = omega arith; within = omega (arith, p .within); there = refl } })))
 
   -- ---- \u{..}
-  module _ (isByte : Bool) {r : Escape} (q : Scanned firstDigit s at r) where
+  module _ (asciiOnly : Bool) {r : Escape} (q : Scanned firstDigit s at r) where
     behind : ℕ → List ℕ → Outcome × List ℕ
-    behind v t = closing isByte (moreDigits v t .0) (moreDigits v t .1)
+    behind v t = closing asciiOnly (moreDigits v t .0) (moreDigits v t .1)
 
-    pub braced-error : {e end : ℕ} → r ≡ Error e end → Scanned (braced isByte) s at r
+    pub braced-error : {e end : ℕ} → r ≡ Error e end → Scanned (braced asciiOnly) s at r
     unfolding braced behind
-    braced-error k = then-error (braced isByte) firstDigit behind (λ l. refl) q k
+    braced-error k = then-error (braced asciiOnly) firstDigit behind (λ l. refl) q k
 
-    pub braced-value : {v next end n w : ℕ} {r′ : Escape} → r ≡ Value v next → Ate orUnderscore addDigit s next (1, v) end (n, w) → Scanned (closing isByte (n, w)) s end r′ → Scanned (braced isByte) s at r′
+    pub braced-value : {v next end n w : ℕ} {r′ : Escape} → r ≡ Value v next → Ate orUnderscore addDigit s next (1, v) end (n, w) → Scanned (closing asciiOnly (n, w)) s end r′ → Scanned (braced asciiOnly) s at r′
     unfolding braced behind moreDigits
     braced-value {v} {next} {end} {n} {w} k a z =
         let p = a .place in
-        then-value (braced isByte) firstDigit behind (λ l. refl) q k
+        then-value (braced asciiOnly) firstDigit behind (λ l. refl) q k
         (scanned-as (behind v) (rw (← a .state, ← p .there)) (z .what)
         (record { after = omega (arith, p .after, z .place .after); within = z .place .within; there = z .place .there }))
 
   -- the brace that opens; at the end `decode` answers NUL
-  module _ (isByte : Bool) {code wide end : ℕ} (d : Decoded s at code wide) (k : at ≤ length s) (u : end ≡ at + wide) where
-    pub unicode-open : {r : Escape} → code ≡ 0x7B → Scanned (braced isByte) s end r → Scanned (unicodeEscape isByte) s at r
+  module _ (asciiOnly : Bool) {code wide end : ℕ} (d : Decoded s at code wide) (k : at ≤ length s) (u : end ≡ at + wide) where
+    pub unicode-open : {r : Escape} → code ≡ 0x7B → Scanned (braced asciiOnly) s end r → Scanned (unicodeEscape asciiOnly) s at r
     unfolding unicodeEscape
     unicode-open h q =
         elim (decLt at (length s)) [
-          | yes l ↦ scanned-on (unicodeEscape isByte) d l u (braced isByte) (λ t. rw h) q
+          | yes l ↦ scanned-on (unicodeEscape asciiOnly) d l u (braced asciiOnly) (λ t. rw h) q
           | no n ↦ absurd (omega (arith, decoded-end d (omega arith) .0))
         ]
 
-    pub unicode-bad : (code ≡ 0x7B → ⊥) → Scanned (unicodeEscape isByte) s at (Error 11 end)
+    pub unicode-bad : (code ≡ 0x7B → ⊥) → Scanned (unicodeEscape asciiOnly) s at (Error 11 end)
     unfolding unicodeEscape
     unicode-bad h =
         elim (decLt at (length s)) [
-          | yes l ↦ scanned-char (unicodeEscape isByte) d l u (error 11) (λ t. rw (ne-eqb code 0x7B h)) refl
+          | yes l ↦ scanned-char (unicodeEscape asciiOnly) d l u (error 11) (λ t. rw (ne-eqb code 0x7B h)) refl
           | no n ↦
               let e : end ≡ at = omega (arith, decoded-end d (omega arith) .1) in
-              rw e (scanned-end (unicodeEscape isByte) refl (omega arith) k)
+              rw e (scanned-end (unicodeEscape asciiOnly) refl (omega arith) k)
         ]
 
 pub ruleset scanning = (hex-none, first-none, closing-none, escape-none, hex-bad, hex-fine, first-bad, first-fine, first-underscore, first-brace, closing-bad, closing-fine, escape-hex, escape-unicode, escape-simple, hex-error, hex-short, hex-pair, braced-error, braced-value, unicode-open, unicode-bad)

@@ -8,7 +8,7 @@ use mathlib.Core.Bool.{Bool, true, false, cond, not, _&&_, false≢true}
 use mathlib.Core.List.{List, [], _∷_}
 use lib.Dec.{eqb, leb, ltb}
 use borrow.Author.Tests.{lt-ltb, ltb-true, leb-false}
-use Rattle.lists.specs.Ends.{Ends}
+use Rattle.lists.specs.Steps.{Ends}
 use Rattle.lists.proofs.Bools.{by-test, on-cond, both}
 use Rattle.lists.proofs.Ends.{ends-all, ends-cons, ends-then, ends-eat}
 use Rattle.unicode.specs.Utf8.{isScalar}
@@ -42,9 +42,9 @@ pub record Fair (Q : ℕ → Type 0) (l : List ℕ) (x : Outcome × List ℕ) : 
   pub ends : Ends (x .1) l
 
 -- Q holds of what escapes give: \x.. and the simple ones below 256, \u{..} a scalar value, and that not in bytes
-pub record Allows (isByte : Bool) (Q : ℕ → Type 0) : Type 0 where
+pub record Allows (asciiOnly : Bool) (Q : ℕ → Type 0) : Type 0 where
   pub low : (c : ℕ) → c < 256 → Q c
-  pub point : isByte ≡ false → (c : ℕ) → isScalar c ≡ true → Q c
+  pub point : asciiOnly ≡ false → (c : ℕ) → isScalar c ≡ true → Q c
 
 fair-cons : {Q : ℕ → Type 0} {l : List ℕ} {x : Outcome × List ℕ} (c : ℕ) → Fair Q l x → Fair Q (c ∷ l) x
 fair-cons c f = record { told = f .told; ends = ends-cons c (f .ends) }
@@ -73,7 +73,7 @@ first-digit-fair (c ∷ t) =
       ends = ends-cons _ (ends-all _);
     }
 
-module _ {isByte : Bool} {Q : ℕ → Type 0} (a : Allows isByte Q) where
+module _ {asciiOnly : Bool} {Q : ℕ → Type 0} (a : Allows asciiOnly Q) where
   -- ---- escapes
   pub hex-escape-fair : (l : List ℕ) → Fair Q l (hexEscape l)
   unfolding hexEscape
@@ -81,21 +81,21 @@ module _ {isByte : Bool} {Q : ℕ → Type 0} (a : Allows isByte Q) where
       then-fair (hexDigit l) _ (hex-digit-fair l)
       (λ hi t h. then-fair (hexDigit t) _ (hex-digit-fair t) (λ lo u k. record { told = a .low (hi * 16 + lo) (omega arith); ends = ends-all _ }))
 
-  code-point-told : (n v : ℕ) → Told Q (codePoint isByte n v)
+  code-point-told : (n v : ℕ) → Told Q (codePoint asciiOnly n v)
   unfolding codePoint
   code-point-told n v =
       on-cond (Told Q) (ltb 6 n) refl
-      (by-test isByte (λ h. rw h refl)
+      (by-test asciiOnly (λ h. rw h refl)
       (λ h. rw h (on-cond (Told Q) (ltb 0x10FFFF v) refl
       (by-test (isScalar v) (λ k. rw k (a .point h v k)) (λ k. rw k refl)))))
 
-  closing-fair : (d : ℕ × ℕ) (l : List ℕ) → Fair Q l (closing isByte d l)
+  closing-fair : (d : ℕ × ℕ) (l : List ℕ) → Fair Q l (closing asciiOnly d l)
   unfolding closing
   closing-fair d [] = record { told = refl; ends = ends-all _ }
   closing-fair d (c ∷ t) =
       record { told = on-cond (Told Q) (eqb c 0x7D) (code-point-told (d .0) (d .1)) refl; ends = ends-cons _ (ends-all _) }
 
-  braced-fair : (l : List ℕ) → Fair Q l (braced isByte l)
+  braced-fair : (l : List ℕ) → Fair Q l (braced asciiOnly l)
   unfolding braced moreDigits
   braced-fair l =
       then-fair (firstDigit l) _ (first-digit-fair l)
@@ -104,7 +104,7 @@ module _ {isByte : Bool} {Q : ℕ → Type 0} (a : Allows isByte Q) where
       let f = closing-fair (d .0) (d .1) in
       record { told = f .told; ends = ends-then (ends-eat orUnderscore addDigit (1, v) t) (f .ends) })
 
-  pub unicode-escape-fair : (l : List ℕ) → Fair Q l (unicodeEscape isByte l)
+  pub unicode-escape-fair : (l : List ℕ) → Fair Q l (unicodeEscape asciiOnly l)
   unfolding unicodeEscape
   unicode-escape-fair [] = record { told = refl; ends = ends-all _ }
   unicode-escape-fair (c ∷ t) =
@@ -120,7 +120,7 @@ module _ {isByte : Bool} {Q : ℕ → Type 0} (a : Allows isByte Q) where
       (on-cond P (eqb c 0x5C) (v 0x5C (omega arith)) (on-cond P (eqb c 0x27) (v 0x27 (omega arith))
       (on-cond P (eqb c 0x30) (v 0x00 (omega arith)) refl))))))
 
-  pub escape-fair : (l : List ℕ) → Fair Q l (escape isByte l)
+  pub escape-fair : (l : List ℕ) → Fair Q l (escape asciiOnly l)
   unfolding escape
   escape-fair [] = record { told = refl; ends = ends-all _ }
   escape-fair (c ∷ t) =
@@ -129,23 +129,23 @@ module _ {isByte : Bool} {Q : ℕ → Type 0} (a : Allows isByte Q) where
       (record { told = simple-told c; ends = ends-cons _ (ends-all _) }))
 
   -- ---- a character c that stands for itself
-  module _ (c : ℕ) (h : isByte ≡ false → Q c) where
-    pub ascii-told : Told Q (asciiCheck isByte c)
+  module _ (c : ℕ) (h : asciiOnly ≡ false → Q c) where
+    pub ascii-told : Told Q (asciiCheck asciiOnly c)
     unfolding asciiCheck
     ascii-told =
-        by-test isByte
+        by-test asciiOnly
         (λ e. rw e (by-test (leb 0x80 c) (λ k. rw k refl) (λ k. rw k (a .low c (omega (arith, leb-false 0x80 c k))))))
         (λ e. rw e (h e))
 
-    pub raw-told : Told Q (rawChar isByte c)
+    pub raw-told : Told Q (rawChar asciiOnly c)
     unfolding rawChar
     raw-told = on-cond (Told Q) (eqb c 0x0D) refl ascii-told
 
-    pub str-told : Told Q (strChar isByte c)
+    pub str-told : Told Q (strChar asciiOnly c)
     unfolding strChar
     str-told = on-cond (Told Q) (eqb c 0x22) refl (on-cond (Told Q) (eqb c 0x0D) refl ascii-told)
 
-    one-char-fair : (t : List ℕ) → Fair Q t (oneChar isByte c t)
+    one-char-fair : (t : List ℕ) → Fair Q t (oneChar asciiOnly c t)
     unfolding oneChar
     one-char-fair t =
         on-cond (Fair Q t) (eqb c 0x5C) (escape-fair t)
@@ -160,11 +160,11 @@ module _ {isByte : Bool} {Q : ℕ → Type 0} (a : Allows isByte Q) where
   alone-fair (char c, x ∷ t) f = record { told = refl; ends = ends-then (f .ends) (ends-cons _ (ends-all _)) }
 
   -- Char and Byte: the first character is read
-  pub char-read : (c : ℕ) (t : List ℕ) → (isByte ≡ false → Q c) → Fair Q t (charOrByte isByte (c ∷ t))
+  pub char-read : (c : ℕ) (t : List ℕ) → (asciiOnly ≡ false → Q c) → Fair Q t (charOrByte asciiOnly (c ∷ t))
   unfolding charOrByte
-  char-read c t h = alone-fair (oneChar isByte c t) (one-char-fair c h t)
+  char-read c t h = alone-fair (oneChar asciiOnly c t) (one-char-fair c h t)
 
-  pub char-told : (l : List ℕ) → (isByte ≡ false → (c : ℕ) → Q c) → Told Q (charOrByte isByte l .0)
+  pub char-told : (l : List ℕ) → (asciiOnly ≡ false → (c : ℕ) → Q c) → Told Q (charOrByte asciiOnly l .0)
   unfolding charOrByte
   char-told [] h = refl
   char-told (c ∷ t) h = char-read c t (λ e. h e c) .told
@@ -174,16 +174,16 @@ module _ {isByte : Bool} {Q : ℕ → Type 0} (a : Allows isByte Q) where
 abbrev pub Any : ℕ → Type 0
 Any c = Unit {0}
 
-pub allows-any : (isByte : Bool) → Allows isByte Any
-allows-any isByte = record { low = λ c h. tt; point = λ e c h. tt }
+pub allows-any : (asciiOnly : Bool) → Allows asciiOnly Any
+allows-any asciiOnly = record { low = λ c h. tt; point = λ e c h. tt }
 
 -- that they are scalar values
 abbrev pub IsScalar : ℕ → Type 0
 IsScalar c = isScalar c ≡ true
 
-pub allows-scalars : (isByte : Bool) → Allows isByte IsScalar
+pub allows-scalars : (asciiOnly : Bool) → Allows asciiOnly IsScalar
 unfolding isScalar
-allows-scalars isByte = record { low = λ c h. rw (lt-ltb c 0xD800 (omega arith)); point = λ e c h. h }
+allows-scalars asciiOnly = record { low = λ c h. rw (lt-ltb c 0xD800 (omega arith)); point = λ e c h. h }
 
 -- that they are below 256, in bytes
 allows-bytes : Allows true (λ c. c < 256)

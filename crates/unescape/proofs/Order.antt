@@ -10,7 +10,7 @@ use lib.Dec.{eqb}
 use borrow.Author.Tests.{le-leb, eqb-true, eq-eqb}
 use Rattle.lists.specs.All.{all}
 use Rattle.lists.specs.Eat.{eat}
-use Rattle.lists.specs.Ends.{Ends}
+use Rattle.lists.specs.Steps.{Ends}
 use Rattle.lists.proofs.Bools.{by-test, on-cond, both, or-true}
 use Rattle.lists.proofs.Cut.{by-length}
 use Rattle.lists.proofs.Eat.{eat-more, eat-stop}
@@ -18,7 +18,7 @@ use Rattle.lists.proofs.Ends.{ends-all, ends-length, ends-eat}
 use Rattle.unicode.specs.Ranges.{inTable}
 use Rattle.ucd.specs.Ucd.{whiteSpace}
 use Rattle.unicode.specs.Utf8.{chars, isScalar, WellFormed}
-use Rattle.unicode.specs.Text.{bytes}
+use Rattle.unicode.specs.Text.{byteLength}
 use Rattle.ucd.specs.Properties.{isWhiteSpace}
 use Rattle.unicode.proofs.Encode.{scalar}
 use Rattle.unicode.proofs.Text.{ends-bytes, chars-nil, chars-first, bytes-chars}
@@ -29,7 +29,7 @@ use Rattle.modes.specs.Modes.{charMode, byteMode, isRaw, isSingle, charactersSh
 use Rattle.modes.specs.Errors.{Outcome, char, error, number, outOfRangeHexEscape}
 use Rattle.unescape.specs.Escapes.{escape, asciiCheck}
 use Rattle.unescape.specs.Bodies.{Item, charOrByte, strChar, rawChar, isSkipped, sawLf, item, one, unskipped, skipped, slashed, strCommon, rawStr, turn, turns, items, itemsOf}
-use Rattle.unescape.specs.Outcome.{single}
+use Rattle.unescape.specs.Promises.{single}
 use Rattle.unescape.specs.Order.{isOutcome, warning21, Lies, Follows, apart, shared, about, InOrder, none, last, next}
 use Rattle.unescape.proofs.Fair.{fault, Told, Fair, IsScalar, allows-scalars, escape-fair, char-read, raw-told, str-told}
 use Rattle.unescape.proofs.Whole.{turned, turns-nil, turns-cons}
@@ -96,18 +96,18 @@ record First (i : Item) (l : List Item) : Type 0 where
   same : l ≡ i ∷ rest
 
 module _ (mode size : ℕ) where
-  abbrev isByte : Bool
-  isByte = charactersShouldBeAscii mode
+  abbrev asciiOnly : Bool
+  asciiOnly = charactersShouldBeAscii mode
 
   -- white space that is not skipped is an item of its own
   abbrev Own : List ℕ → List Item → Type 0
   Own [] l = Unit {0}
-  Own (c ∷ t) l = isWhiteSpace c ≡ true → isSkipped c ≡ false → First (item size (c ∷ t) t (asciiCheck isByte c)) l
+  Own (c ∷ t) l = isWhiteSpace c ≡ true → isSkipped c ≡ false → First (item size (c ∷ t) t (asciiCheck asciiOnly c)) l
 
   -- the items of what is left
   record Listed (t : List ℕ) (l : List Item) : Type 0 where
     order : InOrder mode size l
-    low : size - bytes t ≤ startOf size l
+    low : size - byteLength t ≤ startOf size l
     own : Own t l
 
   -- an item that is not warning 21, before those that start behind it
@@ -116,9 +116,9 @@ module _ (mode size : ℕ) where
   before i (j ∷ l) a n h o = next i j l a (apart n h) o
 
   -- the item of one scan, from a character on
-  scanned : (c : ℕ) (t : List ℕ) (x : Outcome × List ℕ) (l : List Item) → Fair IsScalar t x → bytes (c ∷ t) ≤ size → size - bytes (x .1) ≤ startOf size l → InOrder mode size l →
+  scanned : (c : ℕ) (t : List ℕ) (x : Outcome × List ℕ) (l : List Item) → Fair IsScalar t x → byteLength (c ∷ t) ≤ size → size - byteLength (x .1) ≤ startOf size l → InOrder mode size l →
       InOrder mode size (item size (c ∷ t) (x .1) (x .0) ∷ l)
-  unfolding bytes
+  unfolding byteLength
   scanned c t x l f h k o =
       let b = ends-bytes (f .ends) in
       let w = width-some c in
@@ -127,9 +127,9 @@ module _ (mode size : ℕ) where
 
   -- what a turn gives is in order before whatever is in order behind it
   Orders : ℕ → List ℕ → List Item × List ℕ → Type 0
-  Orders c t x = bytes (c ∷ t) ≤ size → (l : List Item) → Listed (x .1) l → Listed (c ∷ t) (x .0 ++ l)
+  Orders c t x = byteLength (c ∷ t) ≤ size → (l : List Item) → Listed (x .1) l → Listed (c ∷ t) (x .0 ++ l)
 
-  one-orders : (c : ℕ) (t : List ℕ) (x : Outcome × List ℕ) → Fair IsScalar t x → (isWhiteSpace c ≡ true → isSkipped c ≡ false → x ≡ (asciiCheck isByte c, t)) → Orders c t (one size (c ∷ t) x)
+  one-orders : (c : ℕ) (t : List ℕ) (x : Outcome × List ℕ) → Fair IsScalar t x → (isWhiteSpace c ≡ true → isSkipped c ≡ false → x ≡ (asciiCheck asciiOnly c, t)) → Orders c t (one size (c ∷ t) x)
   unfolding Orders
   one-orders c t x f e h l k =
       record {
@@ -139,22 +139,22 @@ module _ (mode size : ℕ) where
       }
 
   -- warning 21, before the item of the character with which it ends
-  space : (from : List ℕ) (c : ℕ) (t : List ℕ) → isWhiteSpace c ≡ true → isSkipped c ≡ false → bytes (c ∷ t) < bytes from → bytes from ≤ size → (l : List Item) → Listed (c ∷ t) l →
+  space : (from : List ℕ) (c : ℕ) (t : List ℕ) → isWhiteSpace c ≡ true → isSkipped c ≡ false → byteLength (c ∷ t) < byteLength from → byteLength from ≤ size → (l : List Item) → Listed (c ∷ t) l →
       InOrder mode size (item size from t (error 21) ∷ l)
-  unfolding bytes isScalar
+  unfolding byteLength isScalar
   space from c t s n b h l k =
       let w = width-some c in
       let o = k .own s n in
       rw (o .same)
-      (next (item size from t (error 21)) (item size (c ∷ t) t (asciiCheck isByte c)) (o .rest)
+      (next (item size from t (error 21)) (item size (c ∷ t) t (asciiCheck asciiOnly c)) (o .rest)
       (record { some = omega arith; within = omega arith; given = refl })
       (about c refl s (omega arith) (omega arith) refl refl)
       (rw (o .same) at (k .order)))
 
   -- the items of a backslash at `from` and what is skipped behind it: warning 22, warning 21, or none
-  skipped-order : (from : List ℕ) (x : Bool × List ℕ) → Halts (x .1) → bytes (x .1) < bytes from → bytes from ≤ size → (l : List Item) → Listed (x .1) l →
-      (InOrder mode size (skipped size from x .0 ++ l)) × (size - bytes from ≤ startOf size (skipped size from x .0 ++ l))
-  unfolding bytes isScalar skipped unskipped
+  skipped-order : (from : List ℕ) (x : Bool × List ℕ) → Halts (x .1) → byteLength (x .1) < byteLength from → byteLength from ≤ size → (l : List Item) → Listed (x .1) l →
+      (InOrder mode size (skipped size from x .0 ++ l)) × (size - byteLength from ≤ startOf size (skipped size from x .0 ++ l))
+  unfolding byteLength isScalar skipped unskipped
   skipped-order from (true, []) s b h l k =
       (before (item size from [] (error 22)) l (record { some = omega arith; within = omega arith; given = refl }) (λ z. omega arith) (k .low) (k .order), omega arith)
   skipped-order from (true, c ∷ t) s b h l k =
@@ -177,46 +177,46 @@ module _ (mode size : ℕ) where
     no-space h = absurd (false≢true (rw (eqb-true c 0x5C e) at h))
 
     skipped-orders : (x : ℕ) (t : List ℕ) → Orders c (x ∷ t) (skipped size (c ∷ x ∷ t) (eat isSkipped sawLf false t))
-    unfolding Orders skipped bytes
+    unfolding Orders skipped byteLength
     skipped-orders x t h l k =
         let b = ends-bytes (ends-eat isSkipped sawLf false t) in
         let o = skipped-order (c ∷ x ∷ t) (eat isSkipped sawLf false t) (eat-halts false t) (omega (arith, b, width-some c)) h l k in
         record { order = o .0; low = o .1; own = λ s. no-space s }
 
-    slashed-orders : (t : List ℕ) → Orders c t (slashed size isByte (c ∷ t) t)
+    slashed-orders : (t : List ℕ) → Orders c t (slashed size asciiOnly (c ∷ t) t)
     unfolding slashed
-    slashed-orders [] = one-orders c [] (escape isByte []) (escape-fair (allows-scalars isByte) []) (λ s. no-space s)
+    slashed-orders [] = one-orders c [] (escape asciiOnly []) (escape-fair (allows-scalars asciiOnly) []) (λ s. no-space s)
     slashed-orders (x ∷ t) =
         on-cond (Orders c (x ∷ t)) (eqb x 0x0A) (skipped-orders x t)
-        (one-orders c (x ∷ t) (escape isByte (x ∷ t)) (escape-fair (allows-scalars isByte) (x ∷ t)) (λ s. no-space s))
+        (one-orders c (x ∷ t) (escape asciiOnly (x ∷ t)) (escape-fair (allows-scalars asciiOnly) (x ∷ t)) (λ s. no-space s))
 
   -- a character that stands for itself; white space that is not skipped is neither a quote nor a CR
   module _ (c : ℕ) (t : List ℕ) (v : isScalar c ≡ true) where
-    raw-orders : Orders c t (one size (c ∷ t) (rawChar isByte c, t))
+    raw-orders : Orders c t (one size (c ∷ t) (rawChar asciiOnly c, t))
     unfolding rawChar
     raw-orders =
-        one-orders c t (rawChar isByte c, t) (record { told = raw-told (allows-scalars isByte) c (λ z. v); ends = ends-all _ })
+        one-orders c t (rawChar asciiOnly c, t) (record { told = raw-told (allows-scalars asciiOnly) c (λ z. v); ends = ends-all _ })
         (λ s n. rw (not-cr c n))
 
-    str-orders : Orders c t (one size (c ∷ t) (strChar isByte c, t))
+    str-orders : Orders c t (one size (c ∷ t) (strChar asciiOnly c, t))
     unfolding strChar
     str-orders =
-        one-orders c t (strChar isByte c, t) (record { told = str-told (allows-scalars isByte) c (λ z. v); ends = ends-all _ })
+        one-orders c t (strChar asciiOnly c, t) (record { told = str-told (allows-scalars asciiOnly) c (λ z. v); ends = ends-all _ })
         (λ s n. rw (not-quote c s, not-cr c n))
 
-  turn-orders : (c : ℕ) (t : List ℕ) → isScalar c ≡ true → Orders c t (turn size mode c t)
+  turn-orders : (c : ℕ) (t : List ℕ) → isScalar c ≡ true → Orders c t (turn mode size c t)
   unfolding turn rawStr strCommon
   turn-orders c t v =
       on-cond (Orders c t) (isRaw mode) (raw-orders c t v)
       (by-test (eqb c 0x5C) (λ e. rw e (slashed-orders c e t)) (λ e. rw e (str-orders c t v)))
 
-  turns-listed : (t : List ℕ) → all isScalar t ≡ true → bytes t ≤ size → Listed t (turns mode size t)
+  turns-listed : (t : List ℕ) → all isScalar t ≡ true → byteLength t ≤ size → Listed t (turns mode size t)
   unfolding Orders
   turns-listed =
-      by-length (λ (t : List ℕ). all isScalar t ≡ true → bytes t ≤ size → Listed t (turns mode size t))
+      by-length (λ (t : List ℕ). all isScalar t ≡ true → byteLength t ≤ size → Listed t (turns mode size t))
       (λ v h. rw (turns-nil mode size) (record { order = none; low = omega arith; own = tt }))
       (λ c t ih v h.
-      let x = turn size mode c t in
+      let x = turn mode size c t in
       let u = turned size mode c t in
       let p = first-of isScalar c t v in
       rw (turns-cons mode size c t)
@@ -224,7 +224,7 @@ module _ (mode size : ℕ) where
       (ih (x .1) (ends-length (u .ends)) (all-ends isScalar (u .ends) (p .1)) (omega (arith, u .few)))))
 
   -- Char and Byte: their one item starts the body
-  single-order : (b : Bool) (t : List ℕ) → all isScalar t ≡ true → bytes t ≤ size → 0 < length t → InOrder mode size (one size t (charOrByte b t) .0)
+  single-order : (b : Bool) (t : List ℕ) → all isScalar t ≡ true → byteLength t ≤ size → 0 < length t → InOrder mode size (one size t (charOrByte b t) .0)
   single-order b [] v h k = absurd (omega arith)
   single-order b (c ∷ t) v h k =
       scanned c t (charOrByte b (c ∷ t)) [] (char-read (allows-scalars b) c t (λ z. first-of isScalar c t v .0)) h (omega arith) none
@@ -239,14 +239,14 @@ chars-some s h = rw (chars-first s h) (omega arith)
 pub in-order : (mode : ℕ) (s : List ℕ) → WellFormed s → (isSingle mode ≡ true → 0 < length s) → InOrder mode (length s) (itemsOf mode s)
 unfolding itemsOf items
 in-order mode s w k =
-    let b : bytes (chars s) ≤ length s = omega (arith, bytes-chars s) in
+    let b : byteLength (chars s) ≤ length s = omega (arith, bytes-chars s) in
     let v = chars-scalar s w in
     by-test (isSingle mode) (λ h. rw h (single-order mode (length s) (eqb mode byteMode) (chars s) v b (chars-some s (k h))))
     (λ h. rw h (turns-listed mode (length s) (chars s) v b .order))
 
 -- the empty one has one item, an empty one: there was no character
 pub one-empty : (mode : ℕ) → isSingle mode ≡ true → itemsOf mode [] ≡ record { start = 0; end = 0; outcome = 1114113 } ∷ []
-unfolding itemsOf items charOrByte bytes
+unfolding itemsOf items charOrByte byteLength
 one-empty mode h = rw (h, chars-nil)
 
 -- so neither starts nor ends ever fall
@@ -280,16 +280,16 @@ never-ten mode s w front i rest e =
     ten-not-given (first-of p i rest (all-behind p front (i ∷ rest) (rw e at (only-given mode s w))) .0)
 
 -- ---- the same of the single answers: where the number is 0, what is also returned is such an outcome
-single-outcome : (isByte : Bool) (s : List ℕ) → WellFormed s → isOutcome (number (charOrByte isByte (chars s) .0)) ≡ true
+single-outcome : (asciiOnly : Bool) (s : List ℕ) → WellFormed s → isOutcome (number (charOrByte asciiOnly (chars s) .0)) ≡ true
 unfolding all itemsOf items isSingle
 single-outcome true s w = both _ true (only-given byteMode s w) .0
 single-outcome false s w = both _ true (only-given charMode s w) .0
 
-pub single-given : (isByte : Bool) (s : List ℕ) {also : ℕ} → Answered (single isByte s) done also → isOutcome also ≡ true
+pub single-given : (asciiOnly : Bool) (s : List ℕ) {also : ℕ} → Answered (single asciiOnly s) done also → isOutcome also ≡ true
 unfolding single
-single-given isByte s a =
+single-given asciiOnly s a =
     by-test (eqb (checkText s .0) done)
-    (λ h. rw (a .also-is, h) (single-outcome isByte s (accepted s (eqb-true (checkText s .0) done h) .good)))
+    (λ h. rw (a .also-is, h) (single-outcome asciiOnly s (accepted s (eqb-true (checkText s .0) done h) .good)))
     (λ h.
     let n : done ≡ checkText s .0 = rw h at (a .number-is) in
     absurd (false≢true (sym h ∙ eq-eqb (checkText s .0) done (sym n))))

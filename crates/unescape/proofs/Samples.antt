@@ -1,4 +1,4 @@
--- Worked examples, computed: the scope's two starred ones first; and programs that the promises rule out.
+-- Worked examples, computed; and programs that the promises rule out.
 -- Assumes nothing.
 use Prim.Native.Nat.{ℕ}
 use native.Mathlib.Omega.{arith}
@@ -9,18 +9,18 @@ use Rattle.lists.specs.Cut.{cut, pieces}
 use Rattle.lists.specs.Eat.{eat}
 use Rattle.unicode.specs.Ranges.{inTable}
 use Rattle.unicode.specs.Utf8.{table, behind, begins, joined, readBy, first, next, chars, width, isScalar, goodBytes, validUpTo}
-use Rattle.unicode.specs.Text.{bytes}
+use Rattle.unicode.specs.Text.{byteLength}
 use Rattle.ucd.specs.Ucd.{whiteSpace}
 use Rattle.text.specs.Answer.{Answered, done, unknownSelector, roomTooSmall, checkText}
 use Rattle.modes.specs.Modes.{strMode, isSingle, charactersShouldBeAscii, isRaw}
 use Rattle.modes.specs.Errors.{error, number, loneSurrogateUnicodeEscape, unicodeEscapeInByte, unskippedWhitespaceWarning}
 use Rattle.unescape.specs.Escapes.{toDigit, hexDigit, hexEscape, firstDigit, moreDigits, codePoint, closing, braced, unicodeEscape, simple, escape, asciiCheck}
 use Rattle.unescape.specs.Bodies.{alone, oneChar, charOrByte, strChar, rawChar, unskipped, skipped, slashed, strCommon, rawStr, turn, turns, items, itemsOf, flat}
-use Rattle.unescape.specs.Outcome.{answerOf, listed, Unescaped, part, single}
+use Rattle.unescape.specs.Promises.{answerOf, listed, Unescaped, part, single}
 
 -- to unfold this is to unfold all that the examples compute with
 definitions : ℕ
-unfolding cut pieces eat inTable table behind begins joined readBy first next chars width isScalar goodBytes validUpTo bytes whiteSpace checkText isSingle isRaw charactersShouldBeAscii toDigit hexDigit hexEscape firstDigit moreDigits codePoint closing braced unicodeEscape simple escape asciiCheck alone oneChar charOrByte strChar rawChar unskipped skipped slashed strCommon rawStr turn flatten turns items itemsOf flat answerOf listed single
+unfolding cut pieces eat inTable table behind begins joined readBy first next chars width isScalar goodBytes validUpTo byteLength whiteSpace checkText isSingle isRaw charactersShouldBeAscii toDigit hexDigit hexEscape firstDigit moreDigits codePoint closing braced unicodeEscape simple escape asciiCheck alone oneChar charOrByte strChar rawChar unskipped skipped slashed strCommon rawStr turn flatten turns items itemsOf flat answerOf listed single
 definitions = 0
 
 -- a mode, a body, and the words of its items

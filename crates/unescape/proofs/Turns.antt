@@ -13,7 +13,8 @@ use Rattle.lists.specs.Eat.{eat}
 use Rattle.unicode.specs.Ranges.{inTable}
 use Rattle.ucd.specs.Ucd.{whiteSpace}
 use Rattle.ucd.specs.Properties.{isWhiteSpace}
-use Rattle.unicode.specs.Text.{Decoded, Place, Ate, bytes, left}
+use Rattle.unicode.specs.Text.{Decoded, byteLength, left}
+use Rattle.unicode.specs.Steps.{Place, Ate}
 use Rattle.unicode.proofs.Text.{decoded-point, decoded-end, decoded-fits, left-end, bytes-chars}
 use Rattle.unescape.specs.declared.escapes.Escape.{Escape}
 use Rattle.unescape.specs.declared.escapes.Escape.the-variants.{Value, Error}
@@ -35,11 +36,11 @@ told-few (Error e end) h = omega (arith, fault e h .few)
 pub hex-few : {s : List ℕ} {at : ℕ} {r : Escape} → Scanned hexEscape s at r → errorOf r ≤ 22
 hex-few {s} {at} {r} q = told-few r (rw (q .what) (hex-escape-fair (allows-any false) (left s at) .told))
 
-pub unicode-few : (isByte : Bool) {s : List ℕ} {at : ℕ} {r : Escape} → Scanned (unicodeEscape isByte) s at r → errorOf r ≤ 22
-unicode-few isByte {s} {at} {r} q = told-few r (rw (q .what) (unicode-escape-fair (allows-any isByte) (left s at) .told))
+pub unicode-few : (asciiOnly : Bool) {s : List ℕ} {at : ℕ} {r : Escape} → Scanned (unicodeEscape asciiOnly) s at r → errorOf r ≤ 22
+unicode-few asciiOnly {s} {at} {r} q = told-few r (rw (q .what) (unicode-escape-fair (allows-any asciiOnly) (left s at) .told))
 
-pub char-or-byte-few : (isByte : Bool) {s : List ℕ} {at : ℕ} {r : Escape} → Scanned (charOrByte isByte) s at r → errorOf r ≤ 22
-char-or-byte-few isByte {s} {at} {r} q = told-few r (rw (q .what) (char-told (allows-any isByte) (left s at) (λ e c. tt)))
+pub char-or-byte-few : (asciiOnly : Bool) {s : List ℕ} {at : ℕ} {r : Escape} → Scanned (charOrByte asciiOnly) s at r → errorOf r ≤ 22
+char-or-byte-few asciiOnly {s} {at} {r} q = told-few r (rw (q .what) (char-told (allows-any asciiOnly) (left s at) (λ e c. tt)))
 
 at-few : (o : Outcome) (end : ℕ) {r : Escape} → Told Any o → r ≡ escapeAt o end → errorOf r ≤ 22
 at-few o end h e = rw e (told-few (escapeAt o end) (rw (result-at o end) h))
@@ -47,14 +48,14 @@ at-few o end h e = rw e (told-few (escapeAt o end) (rw (result-at o end) h))
 pub simple-few : (c end : ℕ) {r : Escape} → r ≡ escapeAt (simple c) end → errorOf r ≤ 22
 simple-few c end e = at-few (simple c) end (simple-told (allows-any false) c) e
 
-pub ascii-few : (isByte : Bool) (c end : ℕ) {r : Escape} → r ≡ escapeAt (asciiCheck isByte c) end → errorOf r ≤ 22
-ascii-few isByte c end e = at-few (asciiCheck isByte c) end (ascii-told (allows-any isByte) c (λ e. tt)) e
+pub ascii-few : (asciiOnly : Bool) (c end : ℕ) {r : Escape} → r ≡ escapeAt (asciiCheck asciiOnly c) end → errorOf r ≤ 22
+ascii-few asciiOnly c end e = at-few (asciiCheck asciiOnly c) end (ascii-told (allows-any asciiOnly) c (λ e. tt)) e
 
-pub str-few : (isByte : Bool) (c end : ℕ) {r : Escape} → r ≡ escapeAt (strChar isByte c) end → errorOf r ≤ 22
-str-few isByte c end e = at-few (strChar isByte c) end (str-told (allows-any isByte) c (λ e. tt)) e
+pub str-few : (asciiOnly : Bool) (c end : ℕ) {r : Escape} → r ≡ escapeAt (strChar asciiOnly c) end → errorOf r ≤ 22
+str-few asciiOnly c end e = at-few (strChar asciiOnly c) end (str-told (allows-any asciiOnly) c (λ e. tt)) e
 
 -- ---- the place of what is left
-pub place-of : (s : List ℕ) (at : ℕ) → at ≤ length s → length s - bytes (left s at) ≡ at
+pub place-of : (s : List ℕ) (at : ℕ) → at ≤ length s → length s - byteLength (left s at) ≡ at
 place-of s at h = omega (arith, bytes-chars (drop at s), length-drop at s)
 
 -- a turn of one item
@@ -83,45 +84,45 @@ module _ {s : List ℕ} {at c wide next : ℕ} (d : Decoded s at c wide) (l : at
       let n : endOf read ≡ next = ap endOf e ∙ end-at o next in
       rw f (one-step read (ap resultOf e ∙ result-at o next) (rw n (record { after = omega arith; within = omega (arith, p .within); there = refl })) (rw n (omega (arith, p .some))))
 
-  pub raw-return : (isByte : Bool) {r : Step} → c ≡ 0x0D → r ≡ stepOf (Error 6 next) → Stepped (onFirst (rawStr (length s) isByte) (left s at)) s at r
+  pub raw-return : (asciiOnly : Bool) {r : Step} → c ≡ 0x0D → r ≡ stepOf (Error 6 next) → Stepped (onFirst (rawStr (length s) asciiOnly) (left s at)) s at r
   unfolding rawStr rawChar
-  raw-return isByte h e = rw (view, h) (rw (view, h) at (char-step (error 6) refl e))
+  raw-return asciiOnly h e = rw (view, h) (rw (view, h) at (char-step (error 6) refl e))
 
-  pub raw-ascii : (isByte : Bool) {read : Escape} {r : Step} → (c ≡ 0x0D → ⊥) → read ≡ escapeAt (asciiCheck isByte c) next → r ≡ stepOf read → Stepped (onFirst (rawStr (length s) isByte) (left s at)) s at r
+  pub raw-ascii : (asciiOnly : Bool) {read : Escape} {r : Step} → (c ≡ 0x0D → ⊥) → read ≡ escapeAt (asciiCheck asciiOnly c) next → r ≡ stepOf read → Stepped (onFirst (rawStr (length s) asciiOnly) (left s at)) s at r
   unfolding rawStr rawChar
-  raw-ascii isByte n e f =
-      rw (view, ne-eqb c 0x0D n) (rw view at (char-step (asciiCheck isByte c) e f))
+  raw-ascii asciiOnly n e f =
+      rw (view, ne-eqb c 0x0D n) (rw view at (char-step (asciiCheck asciiOnly c) e f))
 
-  pub str-step : (isByte : Bool) {read : Escape} {r : Step} → (c ≡ 0x5C → ⊥) → read ≡ escapeAt (strChar isByte c) next → r ≡ stepOf read → Stepped (onFirst (strCommon (length s) isByte) (left s at)) s at r
+  pub str-step : (asciiOnly : Bool) {read : Escape} {r : Step} → (c ≡ 0x5C → ⊥) → read ≡ escapeAt (strChar asciiOnly c) next → r ≡ stepOf read → Stepped (onFirst (strCommon (length s) asciiOnly) (left s at)) s at r
   unfolding strCommon
-  str-step isByte n e f = rw (view, ne-eqb c 0x5C n) (rw view at (char-step (strChar isByte c) e f))
+  str-step asciiOnly n e f = rw (view, ne-eqb c 0x5C n) (rw view at (char-step (strChar asciiOnly c) e f))
 
-  pub str-slash : (isByte : Bool) {r : Step} → c ≡ 0x5C → Behind (λ from. slashed (length s) isByte from (left s next)) s next r → Stepped (onFirst (strCommon (length s) isByte) (left s at)) s at r
+  pub str-slash : (asciiOnly : Bool) {r : Step} → c ≡ 0x5C → Behind (λ from. slashed (length s) asciiOnly from (left s next)) s next r → Stepped (onFirst (strCommon (length s) asciiOnly) (left s at)) s at r
   unfolding strCommon
-  str-slash isByte h b =
+  str-slash asciiOnly h b =
       let p = decoded-point d l in
       rw (view, eq-eqb c 0x5C h) (rw view at (b at (omega (arith, p .some))))
 
 -- ---- behind a backslash
-pub slash-none : (isByte : Bool) {s : List ℕ} {at : ℕ} {r : Step} → length s ≤ at → at ≤ length s → r ≡ stepOf (Error 3 at) → Behind (λ from. slashed (length s) isByte from (left s at)) s at r
+pub slash-none : (asciiOnly : Bool) {s : List ℕ} {at : ℕ} {r : Step} → length s ≤ at → at ≤ length s → r ≡ stepOf (Error 3 at) → Behind (λ from. slashed (length s) asciiOnly from (left s at)) s at r
 unfolding slashed
-slash-none isByte {s} {at} h k e start l =
+slash-none asciiOnly {s} {at} h k e start l =
     let v = left-end s at h in
-    rw v (rw v at (scan-step (escape isByte) {s = s} {at = at} (escape-none h k isByte) e start l))
+    rw v (rw v at (scan-step (escape asciiOnly) {s = s} {at = at} (escape-none h k asciiOnly) e start l))
 
-module _ {s : List ℕ} {at c wide : ℕ} (isByte : Bool) (d : Decoded s at c wide) (m : at < length s) where
+module _ {s : List ℕ} {at c wide : ℕ} (asciiOnly : Bool) (d : Decoded s at c wide) (m : at < length s) where
   pub slash-skip : {next : ℕ} {r : Step} → c ≡ 0x0A → next ≡ at + wide → Behind (λ from. skipped (length s) from (eat isSkipped sawLf false (left s next))) s next r →
-      Behind (λ from. slashed (length s) isByte from (left s at)) s at r
+      Behind (λ from. slashed (length s) asciiOnly from (left s at)) s at r
   unfolding slashed
   slash-skip {next} h u b start l =
       let v : left s at ≡ c ∷ left s next = view d m u in
       rw (v, eq-eqb c 0x0A h) (b start (omega arith))
 
-  pub slash-escape : {read : Escape} {r : Step} → (c ≡ 0x0A → ⊥) → Scanned (escape isByte) s at read → r ≡ stepOf read → Behind (λ from. slashed (length s) isByte from (left s at)) s at r
+  pub slash-escape : {read : Escape} {r : Step} → (c ≡ 0x0A → ⊥) → Scanned (escape asciiOnly) s at read → r ≡ stepOf read → Behind (λ from. slashed (length s) asciiOnly from (left s at)) s at r
   unfolding slashed
   slash-escape n q e start l =
       let v = decoded-point d m .view in
-      rw (v, ne-eqb c 0x0A n) (rw v at (scan-step (escape isByte) q e start l))
+      rw (v, ne-eqb c 0x0A n) (rw v at (scan-step (escape asciiOnly) q e start l))
 
 -- ---- behind a backslash and a newline
 unskipped-is : {s : List ℕ} {start at c wide past : ℕ} {b : Bool} → Decoded s at c wide → start ≤ length s → b ≡ isWhiteSpace c → past ≡ at + wide →
@@ -152,73 +153,73 @@ skip-step {s} {at} {end} {c} {wide} {past} {lines} a d o u start l =
     }
 
 -- ---- any mode
-module _ (size mode : ℕ) {b isByte : Bool} (o : b ≡ isRaw mode) (a : isByte ≡ charactersShouldBeAscii mode) (l : List ℕ) where
-  is-raw : b ≡ true → onFirst (turn size mode) l ≡ onFirst (rawStr size isByte) l
+module _ (size mode : ℕ) {b asciiOnly : Bool} (o : b ≡ isRaw mode) (a : asciiOnly ≡ charactersShouldBeAscii mode) (l : List ℕ) where
+  is-raw : b ≡ true → onFirst (turn mode size) l ≡ onFirst (rawStr size asciiOnly) l
   unfolding turn
   is-raw t = elim l [ [] ↦ refl | c ∷ m ↦ rw (sym o ∙ t, a) ]
 
-  is-str : b ≡ false → onFirst (turn size mode) l ≡ onFirst (strCommon size isByte) l
+  is-str : b ≡ false → onFirst (turn mode size) l ≡ onFirst (strCommon size asciiOnly) l
   unfolding turn
   is-str t = elim l [ [] ↦ refl | c ∷ m ↦ rw (sym o ∙ t, a) ]
 
-  pub turn-raw : {s : List ℕ} {at : ℕ} {r : Step} → b ≡ true → Stepped (onFirst (rawStr size isByte) l) s at r → Stepped (onFirst (turn size mode) l) s at r
+  pub turn-raw : {s : List ℕ} {at : ℕ} {r : Step} → b ≡ true → Stepped (onFirst (rawStr size asciiOnly) l) s at r → Stepped (onFirst (turn mode size) l) s at r
   turn-raw t q = rw (is-raw t) q
 
-  pub turn-str : {s : List ℕ} {at : ℕ} {r : Step} → b ≡ false → Stepped (onFirst (strCommon size isByte) l) s at r → Stepped (onFirst (turn size mode) l) s at r
+  pub turn-str : {s : List ℕ} {at : ℕ} {r : Step} → b ≡ false → Stepped (onFirst (strCommon size asciiOnly) l) s at r → Stepped (onFirst (turn mode size) l) s at r
   turn-str t q = rw (is-str t) q
 
 -- ---- the one character of Char and Byte
-module _ {s : List ℕ} {next c : ℕ} (isByte : Bool) where
-  pub one-escape : {r : Escape} → c ≡ 0x5C → Scanned (escape isByte) s next r → Scanned (oneChar isByte c) s next r
+module _ {s : List ℕ} {next c : ℕ} (asciiOnly : Bool) where
+  pub one-escape : {r : Escape} → c ≡ 0x5C → Scanned (escape asciiOnly) s next r → Scanned (oneChar asciiOnly c) s next r
   unfolding oneChar
-  one-escape h q = scanned-same (oneChar isByte c) (λ l. rw (eq-eqb c 0x5C h)) q
+  one-escape h q = scanned-same (oneChar asciiOnly c) (λ l. rw (eq-eqb c 0x5C h)) q
 
   module _ (n : c ≡ 0x5C → ⊥) (k : next ≤ length s) {b : Bool} (o : b ≡ isEscapeOnly c) where
-    pub one-only : b ≡ true → Scanned (oneChar isByte c) s next (Error 7 next)
+    pub one-only : b ≡ true → Scanned (oneChar asciiOnly c) s next (Error 7 next)
     unfolding oneChar
-    one-only t = scanned-stay (oneChar isByte c) (error 7) (λ l. rw (ne-eqb c 0x5C n, sym o ∙ t)) k refl
+    one-only t = scanned-stay (oneChar asciiOnly c) (error 7) (λ l. rw (ne-eqb c 0x5C n, sym o ∙ t)) k refl
 
-    pub one-return : b ≡ false → c ≡ 0x0D → Scanned (oneChar isByte c) s next (Error 5 next)
+    pub one-return : b ≡ false → c ≡ 0x0D → Scanned (oneChar asciiOnly c) s next (Error 5 next)
     unfolding oneChar
     one-return t h =
-        scanned-stay (oneChar isByte c) (error 5) (λ l. rw (ne-eqb c 0x5C n, sym o ∙ t, eq-eqb c 0x0D h)) k refl
+        scanned-stay (oneChar asciiOnly c) (error 5) (λ l. rw (ne-eqb c 0x5C n, sym o ∙ t, eq-eqb c 0x0D h)) k refl
 
-    pub one-ascii : {r : Escape} → b ≡ false → (c ≡ 0x0D → ⊥) → r ≡ escapeAt (asciiCheck isByte c) next → Scanned (oneChar isByte c) s next r
+    pub one-ascii : {r : Escape} → b ≡ false → (c ≡ 0x0D → ⊥) → r ≡ escapeAt (asciiCheck asciiOnly c) next → Scanned (oneChar asciiOnly c) s next r
     unfolding oneChar
     one-ascii t m e =
-        scanned-stay (oneChar isByte c) (asciiCheck isByte c) (λ l. rw (ne-eqb c 0x5C n, sym o ∙ t, ne-eqb c 0x0D m)) k e
+        scanned-stay (oneChar asciiOnly c) (asciiCheck asciiOnly c) (λ l. rw (ne-eqb c 0x5C n, sym o ∙ t, ne-eqb c 0x0D m)) k e
 
-pub char-none : {s : List ℕ} (isByte : Bool) → length s ≡ 0 → Scanned (charOrByte isByte) s 0 (Error 1 0)
+pub char-none : {s : List ℕ} (asciiOnly : Bool) → length s ≡ 0 → Scanned (charOrByte asciiOnly) s 0 (Error 1 0)
 unfolding charOrByte
-char-none isByte h = scanned-end (charOrByte isByte) refl (omega arith) (omega arith)
+char-none asciiOnly h = scanned-end (charOrByte asciiOnly) refl (omega arith) (omega arith)
 
-module _ {s : List ℕ} {c wide : ℕ} {r : Escape} (isByte : Bool) (d : Decoded s 0 c wide) (l : (length s ≡ 0 → ⊥)) (q : Scanned (oneChar isByte c) s wide r) where
-  read-one : (o : Outcome) → resultOf r ≡ o → charOrByte isByte (left s 0) ≡ alone (o, left s (endOf r))
+module _ {s : List ℕ} {c wide : ℕ} {r : Escape} (asciiOnly : Bool) (d : Decoded s 0 c wide) (l : (length s ≡ 0 → ⊥)) (q : Scanned (oneChar asciiOnly c) s wide r) where
+  read-one : (o : Outcome) → resultOf r ≡ o → charOrByte asciiOnly (left s 0) ≡ alone (o, left s (endOf r))
   unfolding charOrByte
   read-one o e =
       let p = decoded-point d (omega arith) in
       rw (p .view, zero-add wide, ← e, q .what, ← q .place .there)
 
-  pub char-error : {e end : ℕ} → r ≡ Error e end → Scanned (charOrByte isByte) s 0 r
+  pub char-error : {e end : ℕ} → r ≡ Error e end → Scanned (charOrByte asciiOnly) s 0 r
   unfolding alone
   char-error {e} {end} k =
       let w = ap resultOf k in
-      scanned-as (charOrByte isByte) (read-one (error e) w) w (record { after = omega arith; within = q .place .within; there = refl })
+      scanned-as (charOrByte asciiOnly) (read-one (error e) w) w (record { after = omega arith; within = q .place .within; there = refl })
 
   module _ {v end : ℕ} (k : r ≡ Value v end) where
-    value-read : charOrByte isByte (left s 0) ≡ alone (char v, left s end)
+    value-read : charOrByte asciiOnly (left s 0) ≡ alone (char v, left s end)
     value-read = read-one (char v) (ap resultOf k) ∙ rw (ap endOf k)
 
-    pub char-more : {c′ wide′ past : ℕ} → end < length s → Decoded s end c′ wide′ → past ≡ end + wide′ → Scanned (charOrByte isByte) s 0 (Error 2 past)
+    pub char-more : {c′ wide′ past : ℕ} → end < length s → Decoded s end c′ wide′ → past ≡ end + wide′ → Scanned (charOrByte asciiOnly) s 0 (Error 2 past)
     unfolding alone
     char-more h d′ u =
         let p = decoded-point d′ h in
-        scanned-as (charOrByte isByte) (value-read ∙ rw (view d′ h u)) refl (record { after = omega arith; within = omega (arith, p .within); there = refl })
+        scanned-as (charOrByte asciiOnly) (value-read ∙ rw (view d′ h u)) refl (record { after = omega arith; within = omega (arith, p .within); there = refl })
 
-    pub char-alone : length s ≤ end → Scanned (charOrByte isByte) s 0 (Value v end)
+    pub char-alone : length s ≤ end → Scanned (charOrByte asciiOnly) s 0 (Value v end)
     unfolding alone
     char-alone h =
-        scanned-as (charOrByte isByte) (value-read ∙ rw (left-end s end h)) refl
+        scanned-as (charOrByte asciiOnly) (value-read ∙ rw (left-end s end h)) refl
         (record { after = omega arith; within = rw k at (q .place .within); there = left-end s end h })
 
 pub ruleset turning = (raw-return, raw-ascii, str-step, str-slash, slash-none, slash-skip, slash-escape, skip-step, turn-raw, turn-str, one-escape, one-only, one-return, one-ascii, char-none)

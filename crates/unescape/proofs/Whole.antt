@@ -10,16 +10,15 @@ use lib.ListN.{length, take, drop, set, length-append}
 use lib.Dec.{eqb}
 use borrow.Author.Tests.{not-true, not-false, lt-ltb, le-ltb, eq-eqb, ne-eqb}
 use Rattle.lists.specs.Eat.{eat}
-use Rattle.lists.specs.Put.{PutIf}
+use Rattle.lists.specs.Steps.{PutIf, Ends}
 use Rattle.lists.proofs.Bools.{by-test, on-cond}
 use Rattle.lists.proofs.Cut.{cut-nil, cut-cons, by-length}
 use Rattle.lists.proofs.Store.{Storing, storing-none, storing-on, storing-end, stored-front}
-use Rattle.lists.specs.Ends.{Ends}
 use Rattle.lists.proofs.Ends.{ends-all, ends-cons, ends-length, ends-eat}
 use Rattle.unicode.proofs.Text.{ends-bytes}
 use Rattle.unicode.specs.Utf8.{chars}
 use Rattle.ucd.specs.Properties.{isWhiteSpace}
-use Rattle.unicode.specs.Text.{bytes, left}
+use Rattle.unicode.specs.Text.{byteLength, left}
 use Rattle.unicode.proofs.Text.{point-at, left-end, bytes-chars}
 use Rattle.unicode.proofs.Valid.{width-some}
 use Rattle.text.specs.Answer.{Answered, done, unknownSelector, roomTooSmall, longest, checkText}
@@ -31,7 +30,7 @@ use Rattle.modes.specs.Errors.{Outcome, error, number}
 use Rattle.unescape.specs.Escapes.{escape}
 use Rattle.unescape.specs.Bodies.{Item, given, charOrByte, strChar, rawChar, isSkipped, sawLf, item, one, unskipped, skipped, slashed, strCommon, rawStr, turn, turns, items, itemsOf, flat}
 use Rattle.unescape.specs.Steps.{endOf, stepOf, Scanned, onFirst, Stepped, wordsOf, Walked, Stored}
-use Rattle.unescape.specs.Outcome.{answerOf, listed, Unescaped, part, single}
+use Rattle.unescape.specs.Promises.{answerOf, listed, Unescaped, part, single}
 use Rattle.unescape.proofs.Fair.{allows-any, escape-fair}
 use Rattle.unescape.proofs.Turns.{place-of}
 
@@ -70,10 +69,10 @@ pub ruleset putting = (put-none, put-count, put-store)
 -- ---- one turn takes at least its first character, and gives no more items than it takes bytes
 pub record Turned (c : ℕ) (t : List ℕ) (x : List Item × List ℕ) : Type 0 where
   pub ends : Ends (x .1) t
-  pub few : length (x .0) + bytes (x .1) ≤ bytes (c ∷ t)
+  pub few : length (x .0) + byteLength (x .1) ≤ byteLength (c ∷ t)
 
 one-turned : (size c : ℕ) (from t : List ℕ) (x : Outcome × List ℕ) → Ends (x .1) t → Turned c t (one size from x)
-unfolding bytes
+unfolding byteLength
 one-turned size c from t x e = record { ends = e; few = omega (arith, ends-bytes e, width-some c) }
 
 given-few : (b : Bool) (i : Item) → length (given b i) ≤ 1
@@ -86,44 +85,44 @@ unskipped-few size from [] = omega arith
 unskipped-few size from (c ∷ t) = given-few (isWhiteSpace c) (item size from t (error 21))
 
 skipped-turned : (size c x : ℕ) (from t : List ℕ) (r : Bool × List ℕ) → Ends (r .1) t → Turned c (x ∷ t) (skipped size from r)
-unfolding bytes skipped
+unfolding byteLength skipped
 skipped-turned size c x from t (b, l) e =
     record {
       ends = ends-cons _ e;
       few = rw length-append (omega (arith, ends-bytes e, width-some c, width-some x, unskipped-few size from l, given-few b (item size from l (error 22))));
     }
 
-slashed-turned : (size c : ℕ) (isByte : Bool) (from t : List ℕ) → Turned c t (slashed size isByte from t)
+slashed-turned : (size c : ℕ) (asciiOnly : Bool) (from t : List ℕ) → Turned c t (slashed size asciiOnly from t)
 unfolding slashed
-slashed-turned size c isByte from [] = one-turned size c from [] (escape isByte []) (escape-fair (allows-any isByte) [] .ends)
-slashed-turned size c isByte from (x ∷ t) =
+slashed-turned size c asciiOnly from [] = one-turned size c from [] (escape asciiOnly []) (escape-fair (allows-any asciiOnly) [] .ends)
+slashed-turned size c asciiOnly from (x ∷ t) =
     on-cond (Turned c (x ∷ t)) (eqb x 0x0A)
     (skipped-turned size c x from t (eat isSkipped sawLf false t) (ends-eat isSkipped sawLf false t))
-    (one-turned size c from (x ∷ t) (escape isByte (x ∷ t)) (escape-fair (allows-any isByte) (x ∷ t) .ends))
+    (one-turned size c from (x ∷ t) (escape asciiOnly (x ∷ t)) (escape-fair (allows-any asciiOnly) (x ∷ t) .ends))
 
-pub turned : (size mode c : ℕ) (t : List ℕ) → Turned c t (turn size mode c t)
+pub turned : (size mode c : ℕ) (t : List ℕ) → Turned c t (turn mode size c t)
 unfolding turn rawStr strCommon
 turned size mode c t =
-    let isByte = charactersShouldBeAscii mode in
-    on-cond (Turned c t) (isRaw mode) (one-turned size c (c ∷ t) t (rawChar isByte c, t) (ends-all _))
-    (on-cond (Turned c t) (eqb c 0x5C) (slashed-turned size c isByte (c ∷ t) t) (one-turned size c (c ∷ t) t (strChar isByte c, t) (ends-all _)))
+    let asciiOnly = charactersShouldBeAscii mode in
+    on-cond (Turned c t) (isRaw mode) (one-turned size c (c ∷ t) t (rawChar asciiOnly c, t) (ends-all _))
+    (on-cond (Turned c t) (eqb c 0x5C) (slashed-turned size c asciiOnly (c ∷ t) t) (one-turned size c (c ∷ t) t (strChar asciiOnly c, t) (ends-all _)))
 
 module _ (mode size : ℕ) where
   pub turns-nil : turns mode size [] ≡ []
   unfolding turns flatten
-  turns-nil = rw (cut-nil (turn size mode))
+  turns-nil = rw (cut-nil (turn mode size))
 
-  pub turns-cons : (c : ℕ) (t : List ℕ) → turns mode size (c ∷ t) ≡ turn size mode c t .0 ++ turns mode size (turn size mode c t .1)
+  pub turns-cons : (c : ℕ) (t : List ℕ) → turns mode size (c ∷ t) ≡ turn mode size c t .0 ++ turns mode size (turn mode size c t .1)
   unfolding turns flatten
-  turns-cons c t = rw (cut-cons (turn size mode) (λ c t. ends-length (turned size mode c t .ends)) c t)
+  turns-cons c t = rw (cut-cons (turn mode size) (λ c t. ends-length (turned size mode c t .ends)) c t)
 
   -- no more items than bytes
-  few-turns : (l : List ℕ) → length (turns mode size l) ≤ bytes l
+  few-turns : (l : List ℕ) → length (turns mode size l) ≤ byteLength l
   few-turns =
-      by-length (λ (l : List ℕ). length (turns mode size l) ≤ bytes l) (rw turns-nil (omega arith))
+      by-length (λ (l : List ℕ). length (turns mode size l) ≤ byteLength l) (rw turns-nil (omega arith))
       (λ c t ih.
       let x = turned size mode c t in
-      rw (turns-cons c t, length-append) (omega (arith, x .few, ih (turn size mode c t .1) (ends-length (x .ends)))))
+      rw (turns-cons c t, length-append) (omega (arith, x .few, ih (turn mode size c t .1) (ends-length (x .ends)))))
 
 -- but for the one of an empty body of Char or Byte
 pub few-items : (mode : ℕ) (s : List ℕ) → length (itemsOf mode s) ≤ max 1 (length s)
@@ -148,11 +147,11 @@ pub record Half (mode : ℕ) (s : List ℕ) (write : Bool) (list₀ : List ℕ) 
 pub walking-none : (mode : ℕ) (s : List ℕ) (write : Bool) (list : List ℕ) → Walking mode s write list 0 0 list
 walking-none mode s write list = record { within = omega arith; storing = storing-none (flat (turns mode (length s) (chars s))) write list }
 
-module _ (mode : ℕ) {s : List ℕ} {at : ℕ} {r : Step} (h : at < length s) (q : Stepped (onFirst (turn (length s) mode) (left s at)) s at r) where
+module _ (mode : ℕ) {s : List ℕ} {at : ℕ} {r : Step} (h : at < length s) (q : Stepped (onFirst (turn mode (length s)) (left s at)) s at r) where
   -- the words of the turn at the front
   front : flat (turns mode (length s) (left s at)) ≡ wordsOf (r .some) at (r .at) (r .outcome) ++ (wordsOf (r .space) at (r .past) 1114133 ++ flat (turns mode (length s) (left s (r .at))))
   front =
-      let x = onFirst (turn (length s) mode) (left s at) in
+      let x = onFirst (turn mode (length s)) (left s at) in
       let a : Item = record { start = at; end = r .at; outcome = r .outcome } in
       let b : Item = record { start = at; end = r .past; outcome = 1114133 } in
       let e : turns mode (length s) (left s at) ≡ x .0 ++ turns mode (length s) (x .1) = rw (point-at s at h .view) (turns-cons mode (length s) _ _) in
@@ -196,14 +195,14 @@ module _ {mode : ℕ} {s list₀ list : List ℕ} {write : Bool} {at n : ℕ} wh
 pub ruleset walking = (walking-none, walk-first, walk-second, walk-end)
 
 -- ---- Char and Byte
-pub single-within : (isByte : Bool) {s : List ℕ} {read : Escape} {r : Step} → Scanned (charOrByte isByte) s 0 read → r ≡ stepOf read → r .at ≤ length s
-single-within isByte q e = rw e (q .place .within)
+pub single-within : (asciiOnly : Bool) {s : List ℕ} {read : Escape} {r : Step} → Scanned (charOrByte asciiOnly) s 0 read → r ≡ stepOf read → r .at ≤ length s
+single-within asciiOnly q e = rw e (q .place .within)
 
-pub single-walked : (isByte write : Bool) {s list list′ : List ℕ} {read : Escape} {r : Step} {n : ℕ} → Scanned (charOrByte isByte) s 0 read → r ≡ stepOf read →
-    PutIf write list (3 * 0) (wordsOf true 0 (r .at) (r .outcome)) list′ (3 * n) → Walked (one (length s) (chars s) (charOrByte isByte (chars s)) .0) write list n list′
+pub single-walked : (asciiOnly write : Bool) {s list list′ : List ℕ} {read : Escape} {r : Step} {n : ℕ} → Scanned (charOrByte asciiOnly) s 0 read → r ≡ stepOf read →
+    PutIf write list (3 * 0) (wordsOf true 0 (r .at) (r .outcome)) list′ (3 * n) → Walked (one (length s) (chars s) (charOrByte asciiOnly (chars s)) .0) write list n list′
 unfolding flat
-single-walked isByte write {s} {read = read} q e p =
-    let x = charOrByte isByte (chars s) in
+single-walked asciiOnly write {s} {read = read} q e p =
+    let x = charOrByte asciiOnly (chars s) in
     record {
       count = omega (arith, p .next);
       words = p .same ∙ rw (e, ← q .what, ← q .place .there, place-of s (endOf read) (q .place .within), place-of s 0 (omega arith));
@@ -295,14 +294,14 @@ pub text-short : (s : List ℕ) {n a : ℕ} → Answered (checkText s) n a → n
 text-short s c z = accepted s (sym (c .number-is) ∙ z) .short
 
 -- ---- the single answers
-module _ (isByte : Bool) (s : List ℕ) {n₀ a₀ number also : ℕ} (c : Answered (checkText s) n₀ a₀) where
-  pub single-refused : (n₀ ≡ done → ⊥) → number ≡ n₀ → also ≡ a₀ → Answered (single isByte s) number also
+module _ (asciiOnly : Bool) (s : List ℕ) {n₀ a₀ number also : ℕ} (c : Answered (checkText s) n₀ a₀) where
+  pub single-refused : (n₀ ≡ done → ⊥) → number ≡ n₀ → also ≡ a₀ → Answered (single asciiOnly s) number also
   unfolding single
   single-refused x n a =
       let z : eqb (checkText s .0) done ≡ false = ne-eqb _ _ (λ y. x (c .number-is ∙ y)) in
       rw z (record { number-is = n ∙ c .number-is; also-is = a ∙ c .also-is })
 
-  pub single-done : {read : Escape} {r : Step} → n₀ ≡ done → Scanned (charOrByte isByte) s 0 read → r ≡ stepOf read → number ≡ done → also ≡ r .outcome → Answered (single isByte s) number also
+  pub single-done : {read : Escape} {r : Step} → n₀ ≡ done → Scanned (charOrByte asciiOnly) s 0 read → r ≡ stepOf read → number ≡ done → also ≡ r .outcome → Answered (single asciiOnly s) number also
   unfolding single
   single-done x q e n a =
       let z : eqb (checkText s .0) done ≡ true = eq-eqb _ _ (sym (c .number-is) ∙ x) in

@@ -8,7 +8,7 @@ use lib.ListN.{length}
 use Rattle.lists.specs.Cut.{cut}
 use Rattle.lists.specs.Eat.{eat}
 use Rattle.unicode.specs.Utf8.{chars}
-use Rattle.unicode.specs.Text.{bytes}
+use Rattle.unicode.specs.Text.{byteLength}
 use Rattle.ucd.specs.Properties.{isWhiteSpace}
 use Rattle.modes.specs.Modes.{byteMode, isSingle, isRaw, charactersShouldBeAscii}
 use Rattle.modes.specs.Errors.{Outcome, char, error, number, zeroChars, moreThanOneChar, bareCarriageReturn, bareCarriageReturnInRawString, escapeOnlyChar, unskippedWhitespaceWarning, multipleSkippedLinesWarning}
@@ -39,13 +39,13 @@ charOrByte isByte (c ∷ t) = alone (oneChar isByte c t)
 
 -- ---- a character of the other modes, but a backslash in Str, BitStr and ByteStr
 unfoldable pub strChar : Bool → ℕ → Outcome
-strChar isByte c =
+strChar asciiOnly c =
     cond (eqb c 0x22) (error escapeOnlyChar)
     (cond (eqb c 0x0D) (error bareCarriageReturn)
-    (asciiCheck isByte c))
+    (asciiCheck asciiOnly c))
 
 unfoldable pub rawChar : Bool → ℕ → Outcome
-rawChar isByte c = cond (eqb c 0x0D) (error bareCarriageReturnInRawString) (asciiCheck isByte c)
+rawChar asciiOnly c = cond (eqb c 0x0D) (error bareCarriageReturnInRawString) (asciiCheck asciiOnly c)
 
 -- ---- an item: where it starts and ends, in bytes from the body's first, and its outcome's number
 pub record Item : Type 0 where
@@ -68,7 +68,7 @@ given b i = cond b (i ∷ []) []
 module _ (size : ℕ) where
   -- from where `from` is left to where `to` is left
   abbrev pub item : List ℕ → List ℕ → Outcome → Item
-  item from to o = record { start = size - bytes from; end = size - bytes to; outcome = number o }
+  item from to o = record { start = size - byteLength from; end = size - byteLength to; outcome = number o }
 
   -- one item
   abbrev pub one : List ℕ → Outcome × List ℕ → List Item × List ℕ
@@ -86,28 +86,28 @@ module _ (size : ℕ) where
 
   -- behind a backslash: a newline, with the spaces, tabs, LF and CR behind it, is skipped; else an escape
   unfoldable pub slashed : Bool → List ℕ → List ℕ → List Item × List ℕ
-  slashed isByte from [] = one from (escape isByte [])
-  slashed isByte from (x ∷ t) =
-      cond (eqb x 0x0A) (skipped from (eat isSkipped sawLf false t)) (one from (escape isByte (x ∷ t)))
+  slashed asciiOnly from [] = one from (escape asciiOnly [])
+  slashed asciiOnly from (x ∷ t) =
+      cond (eqb x 0x0A) (skipped from (eat isSkipped sawLf false t)) (one from (escape asciiOnly (x ∷ t)))
 
   -- ---- Str, BitStr and ByteStr: what c, with t behind it, gives
   unfoldable pub strCommon : Bool → ℕ → List ℕ → List Item × List ℕ
-  strCommon isByte c t =
-      cond (eqb c 0x5C) (slashed isByte (c ∷ t) t) (one (c ∷ t) (strChar isByte c, t))
+  strCommon asciiOnly c t =
+      cond (eqb c 0x5C) (slashed asciiOnly (c ∷ t) t) (one (c ∷ t) (strChar asciiOnly c, t))
 
   -- ---- RawStr and RawByteStr
   unfoldable pub rawStr : Bool → ℕ → List ℕ → List Item × List ℕ
-  rawStr isByte c t = one (c ∷ t) (rawChar isByte c, t)
+  rawStr asciiOnly c t = one (c ∷ t) (rawChar asciiOnly c, t)
 
-  -- the modes whose characters should be ASCII are those that disallow \u{..}
-  unfoldable pub turn : ℕ → ℕ → List ℕ → List Item × List ℕ
-  turn mode c t =
-      let isByte = charactersShouldBeAscii mode in
-      cond (isRaw mode) (rawStr isByte c t) (strCommon isByte c t)
+-- ---- by the mode; those whose characters should be ASCII are those that disallow \u{..}
+unfoldable pub turn : ℕ → ℕ → ℕ → List ℕ → List Item × List ℕ
+turn mode size c t =
+    let asciiOnly = charactersShouldBeAscii mode in
+    cond (isRaw mode) (rawStr size asciiOnly c t) (strCommon size asciiOnly c t)
 
 -- what the characters give, one after the other
 unfoldable pub turns : ℕ → ℕ → List ℕ → List Item
-turns mode size l = flatten (cut (turn size mode) l)
+turns mode size l = flatten (cut (turn mode size) l)
 
 -- ---- all items of a body of so many bytes, by the mode: one for Char and Byte
 unfoldable pub items : ℕ → ℕ → List ℕ → List Item

@@ -63,24 +63,24 @@ moreDigits v t = eat orUnderscore addDigit (1, v) t
 
 -- what n digits of the value v say, once the brace is closed
 unfoldable pub codePoint : Bool → ℕ → ℕ → Outcome
-codePoint isByte n v =
+codePoint asciiOnly n v =
     cond (ltb 6 n) (error overlongUnicodeEscape)
-    (cond isByte (error unicodeEscapeInByte)
+    (cond asciiOnly (error unicodeEscapeInByte)
     (cond (ltb 0x10FFFF v) (error outOfRangeUnicodeEscape)
     (cond (isScalar v) (char v) (error loneSurrogateUnicodeEscape))))
 
 -- behind the digits: the brace that closes
 unfoldable pub closing : Bool → ℕ × ℕ → List ℕ → Outcome × List ℕ
-closing isByte d [] = (error unclosedUnicodeEscape, [])
-closing isByte d (c ∷ t) = (cond (eqb c 0x7D) (codePoint isByte (d .0) (d .1)) (error invalidCharInUnicodeEscape), t)
+closing asciiOnly d [] = (error unclosedUnicodeEscape, [])
+closing asciiOnly d (c ∷ t) = (cond (eqb c 0x7D) (codePoint asciiOnly (d .0) (d .1)) (error invalidCharInUnicodeEscape), t)
 
 -- behind the brace that opens
 unfoldable pub braced : Bool → List ℕ → Outcome × List ℕ
-braced isByte l = firstDigit l then (λ v t. let d = moreDigits v t in closing isByte (d .0) (d .1))
+braced asciiOnly l = firstDigit l then (λ v t. let d = moreDigits v t in closing asciiOnly (d .0) (d .1))
 
 unfoldable pub unicodeEscape : Bool → List ℕ → Outcome × List ℕ
-unicodeEscape isByte [] = (error noBraceInUnicodeEscape, [])
-unicodeEscape isByte (c ∷ t) = cond (eqb c 0x7B) (braced isByte t) (error noBraceInUnicodeEscape, t)
+unicodeEscape asciiOnly [] = (error noBraceInUnicodeEscape, [])
+unicodeEscape asciiOnly (c ∷ t) = cond (eqb c 0x7B) (braced asciiOnly t) (error noBraceInUnicodeEscape, t)
 
 -- ---- behind a backslash
 -- the escapes of one character: " n r t \ ' 0
@@ -96,12 +96,12 @@ simple c =
     (error invalidEscape)))))))
 
 unfoldable pub escape : Bool → List ℕ → Outcome × List ℕ
-escape isByte [] = (error loneSlash, [])
-escape isByte (c ∷ t) =
+escape asciiOnly [] = (error loneSlash, [])
+escape asciiOnly (c ∷ t) =
     cond (eqb c 0x78) (hexEscape t)
-    (cond (eqb c 0x75) (unicodeEscape isByte t)
+    (cond (eqb c 0x75) (unicodeEscape asciiOnly t)
     (simple c, t))
 
 -- ---- a character that stands for itself
 unfoldable pub asciiCheck : Bool → ℕ → Outcome
-asciiCheck isByte c = cond (isByte && leb 0x80 c) (error nonAsciiCharInByte) (char c)
+asciiCheck asciiOnly c = cond (asciiOnly && leb 0x80 c) (error nonAsciiCharInByte) (char c)

@@ -1,5 +1,5 @@
 pub mod Escapes
 pub mod Bodies
 pub mod Steps
-pub mod Outcome
+pub mod Promises
 pub mod Order

@@ -8,8 +8,9 @@ use lib.Dec.{eqb}
 use lib.ListN.{length}
 use lib.Seq.{sets}
 use Rattle.lists.specs.Over.{over}
-use Rattle.lists.specs.Values.{valuesFrom}
-use Rattle.unicode.specs.Text.{Place, left}
+use Rattle.lists.specs.Steps.{valuesFrom}
+use Rattle.unicode.specs.Steps.{Place}
+use Rattle.unicode.specs.Text.{left}
 use Rattle.text.specs.Answer.{Answered, done, checkRoom}
 use Rattle.unescape.specs.declared.escapes.Escape.{Escape}
 use Rattle.unescape.specs.declared.escapes.Escape.the-variants.{Value, Error}

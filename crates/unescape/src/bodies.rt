@@ -4,7 +4,8 @@ ghost use mathlib.Core.Bool.{false};
 ghost use Prim.Native.Nat.{_≤_, _<_};
 ghost use lib.ListN.{length};
 ghost use Rattle.lists.specs.Eat.{eat};
-ghost use Rattle.unicode.specs.Text.{Ate, left};
+ghost use Rattle.unicode.specs.Steps.{Ate};
+ghost use Rattle.unicode.specs.Text.{left};
 ghost use Rattle.unescape.specs.Bodies.{isEscapeOnly, oneChar, charOrByte, strChar, isSkipped, sawLf, skipped, slashed, strCommon, rawStr, turn};
 ghost use Rattle.unescape.specs.Steps.{endOf, errorOf, escapeAt, stepOf, Scanned, Behind, onFirst, Stepped};
 use crate::escapes::Escape;
@@ -126,21 +127,21 @@ pub fn unescape_char_or_byte(text: &[u8], is_byte: bool) -> Escape
 }
 
 // A character of Str, BitStr or ByteStr that is no backslash. LF and tab are as any other.
-fn str_char(c: u32, end: usize, is_byte: bool) -> Escape
-    ensures { λ r. ⌜ r ≡ escapeAt (strChar «is_byte» c) end ⌝ }
+fn str_char(c: u32, end: usize, ascii_only: bool) -> Escape
+    ensures { λ r. ⌜ r ≡ escapeAt (strChar «ascii_only» c) end ⌝ }
 {
     match c {
         0x22 => Escape::Error(errors::ESCAPE_ONLY_CHAR, end),
         0x0D => Escape::Error(errors::BARE_CARRIAGE_RETURN, end),
-        _ => ascii_check(c, end, is_byte),
+        _ => ascii_check(c, end, ascii_only),
     }
 }
 
 // Behind a backslash: as `scan_escape`, but for the newline. It tells the escapes apart itself, so that what stands there is decoded
 // once, and an escape of one character is compiled into the loop.
-fn slash(text: &[u8], at: usize, is_byte: bool) -> Step
+fn slash(text: &[u8], at: usize, ascii_only: bool) -> Step
     requires { ⌜ at ≤ length (now text) ⌝ }
-    ensures { λ r. ⌜ Behind (λ from. slashed (length (now (text .entry))) «is_byte» from (left (now (text .entry)) at)) (now (text .entry)) at r ⌝ }
+    ensures { λ r. ⌜ Behind (λ from. slashed (length (now (text .entry))) «ascii_only» from (left (now (text .entry)) at)) (now (text .entry)) at r ⌝ }
 {
     if text.len() <= at {
         return item(Escape::Error(errors::LONE_SLASH, at));
@@ -154,22 +155,22 @@ fn slash(text: &[u8], at: usize, is_byte: bool) -> Step
         return item(scan_hex(text, next));
     }
     if d.code == 0x75 {
-        return item(scan_unicode(text, next, is_byte));
+        return item(scan_unicode(text, next, ascii_only));
     }
     item(simple(d.code, next))
 }
 
 // One turn over a body of Str, BitStr or ByteStr.
-fn unescape_str_common(text: &[u8], at: usize, is_byte: bool) -> Step
+fn unescape_str_common(text: &[u8], at: usize, ascii_only: bool) -> Step
     requires { ⌜ at < length (now text) ⌝ }
-    ensures { λ r. ⌜ Stepped (onFirst (strCommon (length (now (text .entry))) «is_byte») (left (now (text .entry)) at)) (now (text .entry)) at r ⌝ }
+    ensures { λ r. ⌜ Stepped (onFirst (strCommon (length (now (text .entry))) «ascii_only») (left (now (text .entry)) at)) (now (text .entry)) at r ⌝ }
 {
     let d = decode(text, at);
     let next = at + d.wide;
     if d.code == 0x5C {
-        return slash(text, next, is_byte);
+        return slash(text, next, ascii_only);
     }
-    item(str_char(d.code, next, is_byte))
+    item(str_char(d.code, next, ascii_only))
 }
 
 fn is_skipped(c: u32) -> bool
@@ -230,22 +231,22 @@ fn skip_ascii_whitespace(text: &[u8], at: usize) -> Step
 }
 
 // One turn over a body of RawStr or RawByteStr.
-fn unescape_raw_str_or_raw_byte_str(text: &[u8], at: usize, is_byte: bool) -> Step
+fn unescape_raw_str_or_raw_byte_str(text: &[u8], at: usize, ascii_only: bool) -> Step
     requires { ⌜ at < length (now text) ⌝ }
-    ensures { λ r. ⌜ Stepped (onFirst (rawStr (length (now (text .entry))) «is_byte») (left (now (text .entry)) at)) (now (text .entry)) at r ⌝ }
+    ensures { λ r. ⌜ Stepped (onFirst (rawStr (length (now (text .entry))) «ascii_only») (left (now (text .entry)) at)) (now (text .entry)) at r ⌝ }
 {
     let d = decode(text, at);
     let next = at + d.wide;
     if d.code == 0x0D {
         return item(Escape::Error(errors::BARE_CARRIAGE_RETURN_IN_RAW_STRING, next));
     }
-    item(ascii_check(d.code, next, is_byte))
+    item(ascii_check(d.code, next, ascii_only))
 }
 
 // One turn over a body of any mode but Char and Byte.
 pub fn turn(text: &[u8], at: usize, mode: u32) -> Step
     requires { ⌜ at < length (now text) ⌝ }
-    ensures { λ r. ⌜ Stepped (onFirst (turn (length (now (text .entry))) mode) (left (now (text .entry)) at)) (now (text .entry)) at r ⌝ }
+    ensures { λ r. ⌜ Stepped (onFirst (turn mode (length (now (text .entry)))) (left (now (text .entry)) at)) (now (text .entry)) at r ⌝ }
 {
     if is_raw(mode) {
         return unescape_raw_str_or_raw_byte_str(text, at, is_ascii_only(mode));

@@ -2,7 +2,7 @@
 ghost use mathlib.Core.Path.{_≡_};
 ghost use Prim.Native.Nat.{_≤_, _<_};
 ghost use lib.ListN.{length};
-ghost use Rattle.unicode.specs.Text.{Ate};
+ghost use Rattle.unicode.specs.Steps.{Ate};
 ghost use Rattle.unescape.specs.Escapes.{toDigit, hexDigit, hexEscape, firstDigit, orUnderscore, countDigit, valued, addDigit, codePoint, closing, braced, unicodeEscape, simple, escape, asciiCheck};
 ghost use Rattle.unescape.specs.Steps.{digitValues, escapeAt, valueOf, Scanned};
 use modes::errors;
@@ -156,9 +156,9 @@ pub fn scan_hex(text: &[u8], at: usize) -> Escape
 }
 
 // Behind a backslash.
-pub fn scan_escape(text: &[u8], at: usize, is_byte: bool) -> Escape
+pub fn scan_escape(text: &[u8], at: usize, ascii_only: bool) -> Escape
     requires { ⌜ at ≤ length (now text) ⌝ }
-    ensures { λ r. ⌜ Scanned (escape «is_byte») (now (text .entry)) at r ⌝ }
+    ensures { λ r. ⌜ Scanned (escape «ascii_only») (now (text .entry)) at r ⌝ }
 {
     if text.len() <= at {
         return Escape::Error(errors::LONE_SLASH, at);
@@ -169,7 +169,7 @@ pub fn scan_escape(text: &[u8], at: usize, is_byte: bool) -> Escape
         return scan_hex(text, next);
     }
     if d.code == 0x75 {
-        return scan_unicode(text, next, is_byte);
+        return scan_unicode(text, next, ascii_only);
     }
     simple(d.code, next)
 }
@@ -255,13 +255,13 @@ fn more_digits(text: &[u8], from: usize, first: u32, digits: &[u8]) -> Digits
 }
 
 // Wrong syntax comes before a value that the literal can't hold.
-fn code_point(count: usize, value: u32, end: usize, is_byte: bool) -> Escape
-    ensures { λ r. ⌜ r ≡ escapeAt (codePoint «is_byte» count value) end ⌝ }
+fn code_point(count: usize, value: u32, end: usize, ascii_only: bool) -> Escape
+    ensures { λ r. ⌜ r ≡ escapeAt (codePoint «ascii_only» count value) end ⌝ }
 {
     if 6 < count {
         return Escape::Error(errors::OVERLONG_UNICODE_ESCAPE, end);
     }
-    if is_byte {
+    if ascii_only {
         return Escape::Error(errors::UNICODE_ESCAPE_IN_BYTE, end);
     }
     if 0x10FFFF < value {
@@ -277,9 +277,9 @@ fn code_point(count: usize, value: u32, end: usize, is_byte: bool) -> Escape
 }
 
 // Behind the digits of `\u{..}`.
-fn closing_brace(text: &[u8], at: usize, count: usize, value: u32, is_byte: bool) -> Escape
+fn closing_brace(text: &[u8], at: usize, count: usize, value: u32, ascii_only: bool) -> Escape
     requires { ⌜ at ≤ length (now text) ⌝ }
-    ensures { λ r. ⌜ Scanned (closing «is_byte» (count, value)) (now (text .entry)) at r ⌝ }
+    ensures { λ r. ⌜ Scanned (closing «ascii_only» (count, value)) (now (text .entry)) at r ⌝ }
 {
     if text.len() <= at {
         return Escape::Error(errors::UNCLOSED_UNICODE_ESCAPE, at);
@@ -289,40 +289,40 @@ fn closing_brace(text: &[u8], at: usize, count: usize, value: u32, is_byte: bool
     if d.code != 0x7D {
         return Escape::Error(errors::INVALID_CHAR_IN_UNICODE_ESCAPE, next);
     }
-    code_point(count, value, next, is_byte)
+    code_point(count, value, next, ascii_only)
 }
 
 // Behind `\u{`.
-fn scan_braced(text: &[u8], at: usize, is_byte: bool, digits: &[u8]) -> Escape
+fn scan_braced(text: &[u8], at: usize, ascii_only: bool, digits: &[u8]) -> Escape
     requires { ⌜ (at ≤ length (now text)) × (now digits ≡ digitValues) ⌝ }
-    ensures { λ r. ⌜ Scanned (braced «is_byte») (now (text .entry)) at r ⌝ }
+    ensures { λ r. ⌜ Scanned (braced «ascii_only») (now (text .entry)) at r ⌝ }
 {
     let first = first_digit(text, at, digits);
     let Escape::Value(digit, next) = first else {
         return first;
     };
     let more = more_digits(text, next, digit, digits);
-    closing_brace(text, more.at, more.count, more.value, is_byte)
+    closing_brace(text, more.at, more.count, more.value, ascii_only)
 }
 
 // Behind `\u`.
-pub fn scan_unicode(text: &[u8], at: usize, is_byte: bool) -> Escape
+pub fn scan_unicode(text: &[u8], at: usize, ascii_only: bool) -> Escape
     requires { ⌜ at ≤ length (now text) ⌝ }
-    ensures { λ r. ⌜ Scanned (unicodeEscape «is_byte») (now (text .entry)) at r ⌝ }
+    ensures { λ r. ⌜ Scanned (unicodeEscape «ascii_only») (now (text .entry)) at r ⌝ }
 {
     let d = decode(text, at);
     let next = at + d.wide;
     if d.code != 0x7B {
         return Escape::Error(errors::NO_BRACE_IN_UNICODE_ESCAPE, next);
     }
-    scan_braced(text, next, is_byte, &DIGITS)
+    scan_braced(text, next, ascii_only, &DIGITS)
 }
 
 // A character that stands for itself.
-pub fn ascii_check(c: u32, end: usize, is_byte: bool) -> Escape
-    ensures { λ r. ⌜ r ≡ escapeAt (asciiCheck «is_byte» c) end ⌝ }
+pub fn ascii_check(c: u32, end: usize, ascii_only: bool) -> Escape
+    ensures { λ r. ⌜ r ≡ escapeAt (asciiCheck «ascii_only» c) end ⌝ }
 {
-    if !is_byte {
+    if !ascii_only {
         return Escape::Value(c, end);
     }
     if c < 0x80 {

@@ -3,7 +3,7 @@ ghost use mathlib.Core.Path.{_≡_};
 ghost use mathlib.Core.Bool.{true, false};
 ghost use Prim.Native.Nat.{min};
 ghost use Rattle.text.specs.Answer.{Answered};
-ghost use Rattle.unescape.specs.Outcome.{Unescaped, part, single};
+ghost use Rattle.unescape.specs.Promises.{Unescaped, part, single};
 
 mod bodies;
 mod escapes;

@@ -3,7 +3,7 @@ ghost use mathlib.Core.Path.{_≡_};
 ghost use mathlib.Core.Bool.{true};
 ghost use Prim.Native.Nat.{_+_, _*_, _≤_};
 ghost use lib.ListN.{length};
-ghost use Rattle.lists.specs.Put.{PutIf};
+ghost use Rattle.lists.specs.Steps.{PutIf};
 ghost use Rattle.unicode.specs.Utf8.{chars};
 ghost use Rattle.text.specs.Answer.{longest};
 ghost use Rattle.unescape.specs.Bodies.{charOrByte, one, turns, itemsOf, flat};

@@ -16,7 +16,8 @@ use Rattle.lists.proofs.Bools.{by-test}
 use Rattle.lists.proofs.Cut.{by-length}
 use Rattle.lists.proofs.Eat.{eat-nil, eat-more, eat-stop}
 use Rattle.unicode.specs.Utf8.{first, chars}
-use Rattle.unicode.specs.Text.{Decoded, left, Place, Eating, Ate, keep, skip}
+use Rattle.unicode.specs.Text.{Decoded, left, keep, skip}
+use Rattle.unicode.specs.Steps.{Place, Eating, Ate}
 use Rattle.unicode.proofs.First.{fine, over-3, over-4}
 use Rattle.unicode.proofs.Rows.{Seen, seen-1, seen-2, seen-3, seen-4, seen-none, seen, first-1, low-ge}
 use Rattle.unicode.proofs.Text.{chars-nil, chars-first, skip-nil, skip-more, skip-stop, go-on, halt-skip}

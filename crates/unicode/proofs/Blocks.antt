@@ -11,8 +11,8 @@ use lib.ListN.{length, getD}
 use borrow.Author.Tests.{lt-ltb, le-ltb, ltb-true, not-false}
 use Rattle.lists.proofs.Bools.{and-false, both}
 use Rattle.unicode.specs.Ranges.{_to_, inRange}
-use Rattle.unicode.specs.Wide.{low, high, free, Stood, whole}
-use Rattle.unicode.specs.Text.{Decoded, Passed}
+use Rattle.unicode.specs.Steps.{low, high, free, Stood, whole, Passed}
+use Rattle.unicode.specs.Text.{Decoded}
 use Rattle.unicode.proofs.First.{under-4}
 use Rattle.unicode.proofs.Reading.{two-yes, three-yes, four-yes, decoded-two, decoded-three, decoded-four}
 use Rattle.unicode.proofs.Rows.{In, in-range, is-in, low-ge, high-le}

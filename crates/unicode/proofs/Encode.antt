@@ -11,7 +11,7 @@ use lib.ListN.{length, getD, take}
 use lib.Seq.{take-suc}
 use borrow.Author.Tests.{lt-ltb, le-ltb, leb-true, ltb-true, eqb-true}
 use Rattle.unicode.specs.Utf8.{first, width, encode, isScalar}
-use Rattle.unicode.specs.Wide.{low, high, two, three, four}
+use Rattle.unicode.specs.Steps.{low, high, two, three, four}
 use Rattle.unicode.proofs.Rows.{In, is-in, Seen, seen-1, seen-2, seen-3, seen-4, seen-none, seen, low-ge, high-le, first-1, first-2, first-3, first-4}
 use Rattle.unicode.proofs.First.{fine, Fine, width-1, width-2, width-3, width-4, over-3, over-4}
 

@@ -10,7 +10,7 @@ use lib.ListN.{length, getD, take, length-take, List·getD-eq-default, List·get
 use lib.Seq.{getD-take}
 use borrow.Author.Tests.{lt-ltb, le-ltb, le-leb}
 use Rattle.unicode.specs.Utf8.{first, width, isScalar}
-use Rattle.unicode.specs.Wide.{low, high}
+use Rattle.unicode.specs.Steps.{low, high}
 use Rattle.unicode.proofs.Rows.{In, Seen, seen-1, seen-2, seen-3, seen-4, seen-none, seen, low-ge, high-le, first-1, first-2, first-3, first-4}
 
 -- ---- numbers that are scalar values, and how wide each character is

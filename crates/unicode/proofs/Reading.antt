@@ -10,7 +10,7 @@ use lib.Seq.{drop-cons, getD-drop}
 use borrow.Author.Tests.{not-true, not-false}
 use Rattle.unicode.specs.Ranges.{_to_, inRange}
 use Rattle.unicode.specs.Utf8.{first, noChar}
-use Rattle.unicode.specs.Wide.{Reads, low, high, two, three, four}
+use Rattle.unicode.specs.Steps.{Reads, low, high, two, three, four}
 use Rattle.unicode.specs.Text.{Decoded}
 use Rattle.unicode.proofs.Rows.{first-1, first-gap, first-over, first-2, first-3, first-4}
 

@@ -13,7 +13,7 @@ use borrow.Author.Tests.{le-leb, lt-leb, leb-true}
 use Rattle.lists.proofs.Bools.{and-false, and-true, both, both-T}
 use Rattle.unicode.specs.Ranges.{Range, _to_, inRange}
 use Rattle.unicode.specs.Utf8.{Row, row, table, behind, begins, joined, follows, noChar, readBy, first}
-use Rattle.unicode.specs.Wide.{low, high, two, three, four}
+use Rattle.unicode.specs.Steps.{low, high, two, three, four}
 
 -- ---- a test that antt computes at every number below n, and what it says of each
 abbrev pub every : (ℕ → Bool) → ℕ → Bool

@@ -11,11 +11,12 @@ use lib.ListN.{length, drop, getD, length-drop, drop-of-length-le}
 use lib.Seq.{drop-cons, drop-drop}
 use borrow.Author.Tests.{not-true, not-false}
 use Rattle.lists.specs.Eat.{eat}
-use Rattle.lists.specs.Ends.{Ends}
+use Rattle.lists.specs.Steps.{Ends}
 use Rattle.lists.proofs.Cut.{cut-nil, cut-cons, by-length}
 use Rattle.lists.proofs.Eat.{eat-nil, eat-more, eat-stop}
 use Rattle.unicode.specs.Utf8.{first, next, chars, width}
-use Rattle.unicode.specs.Text.{Decoded, bytes, left, Point, Place, Eating, Ate, keep, skip}
+use Rattle.unicode.specs.Text.{Decoded, byteLength, left, keep, skip}
+use Rattle.unicode.specs.Steps.{Point, Place, Eating, Ate}
 use Rattle.unicode.proofs.First.{Fine, fine}
 
 -- ---- the characters of a text
@@ -64,24 +65,24 @@ pub decoded-unique : {s : List ℕ} {at c w c′ w′ : ℕ} → Decoded s at c 
 decoded-unique d e = (d .code-is ∙ sym (e .code-is), d .wide-is ∙ sym (e .wide-is))
 
 -- the bytes that the characters take are those of the text
-pub bytes-chars : (s : List ℕ) → bytes (chars s) ≡ length s
-unfolding bytes
+pub bytes-chars : (s : List ℕ) → byteLength (chars s) ≡ length s
+unfolding byteLength
 bytes-chars =
-    by-length (λ (s : List ℕ). bytes (chars s) ≡ length s) (rw chars-nil)
+    by-length (λ (s : List ℕ). byteLength (chars s) ≡ length s) (rw chars-nil)
     (λ a s ih.
     let f = fine a s in
     let w = first (a ∷ s) .1 in
     rw (chars-first (a ∷ s) (omega arith))
     (omega (arith, f .some, f .within, f .size, ih (drop w (a ∷ s)) (omega (arith, length-drop w (a ∷ s))), length-drop w (a ∷ s))))
 
-pub bytes-append : (x y : List ℕ) → bytes (x ++ y) ≡ bytes x + bytes y
-unfolding bytes
+pub bytes-append : (x y : List ℕ) → byteLength (x ++ y) ≡ byteLength x + byteLength y
+unfolding byteLength
 bytes-append [] y = omega arith
 bytes-append (c ∷ x) y = omega (arith, bytes-append x y)
 
 -- the bytes of a list, by the front before one of its ends
-pub ends-bytes : {x t : List ℕ} (e : Ends x t) → bytes t ≡ bytes (e .front) + bytes x
-ends-bytes {x} e = ap bytes (e .is) ∙ bytes-append (e .front) x
+pub ends-bytes : {x t : List ℕ} (e : Ends x t) → byteLength t ≡ byteLength (e .front) + byteLength x
+ends-bytes {x} e = ap byteLength (e .is) ∙ bytes-append (e .front) x
 
 -- ---- places
 -- at the end nothing is left
@@ -89,21 +90,21 @@ pub left-end : (s : List ℕ) (at : ℕ) → length s ≤ at → left s at ≡ [
 left-end s at h = rw drop-of-length-le chars-nil
 
 -- what stands behind a front of the characters, by the bytes of the front
-pub chars-behind : (f r s : List ℕ) → chars s ≡ f ++ r → chars (drop (bytes f) s) ≡ r
-unfolding bytes
+pub chars-behind : (f r s : List ℕ) → chars s ≡ f ++ r → chars (drop (byteLength f) s) ≡ r
+unfolding byteLength
 chars-behind [] r s e = e
 chars-behind (c ∷ f) r [] e = absurd (cons≢nil (sym e ∙ chars-nil))
 chars-behind (c ∷ f) r (a ∷ s) e =
     let w = first (a ∷ s) .1 in
     let q = sym (chars-first (a ∷ s) (omega arith)) ∙ e in
     let h : first (a ∷ s) .0 ≡ c = ap (λ (l : List ℕ). getD l 0 0) q in
-    let z : width c + bytes f ≡ w + bytes f = omega (arith, fine a s .size, ap width h) in
-    ap (λ (n : ℕ). chars (drop n (a ∷ s))) z ∙ ap chars (sym (drop-drop (bytes f) w (a ∷ s))) ∙ chars-behind f r (drop w (a ∷ s)) (ap tail q)
+    let z : width c + byteLength f ≡ w + byteLength f = omega (arith, fine a s .size, ap width h) in
+    ap (λ (n : ℕ). chars (drop n (a ∷ s))) z ∙ ap chars (sym (drop-drop (byteLength f) w (a ∷ s))) ∙ chars-behind f r (drop w (a ∷ s)) (ap tail q)
 
 -- the bytes between two places, by what is left at each
-pub between : {s : List ℕ} {low at : ℕ} {l : List ℕ} → low ≤ length s → Place s low at l → bytes (left s low) - bytes l ≡ at - low
+pub between : {s : List ℕ} {low at : ℕ} {l : List ℕ} → low ≤ length s → Place s low at l → byteLength (left s low) - byteLength l ≡ at - low
 between {s} {low} {at} {l} h p =
-    omega (arith, p .after, p .within, ap bytes (p .there), bytes-chars (drop low s), bytes-chars (drop at s), length-drop low s, length-drop at s)
+    omega (arith, p .after, p .within, ap byteLength (p .there), bytes-chars (drop low s), bytes-chars (drop at s), length-drop low s, length-drop at s)
 
 -- a place after a place
 pub from-place : {s : List ℕ} {low at end : ℕ} {l m m′ : List ℕ} → Place s low at l → Place s at end m → m ≡ m′ → Place s low end m′

@@ -16,7 +16,8 @@ use Rattle.lists.specs.All.{all}
 use Rattle.lists.proofs.Cut.{by-length}
 use Rattle.lists.proofs.Bools.{by-test, both}
 use Rattle.unicode.specs.Utf8.{first, chars, width, isChar, isScalar, encode, encodeAll, goodBytes, validUpTo, WellFormed, Encoded}
-use Rattle.unicode.specs.Text.{bytes, left, Decoded, Point, Passed}
+use Rattle.unicode.specs.Text.{byteLength, left, Decoded}
+use Rattle.unicode.specs.Steps.{Point, Passed}
 use Rattle.unicode.proofs.First.{fine}
 use Rattle.unicode.proofs.Encode.{scalar, encode-long, back, forth}
 use Rattle.unicode.proofs.Text.{chars-nil, chars-first, left-end, point-at, decoded-point, bytes-chars}
@@ -60,8 +61,8 @@ valid-nil : validUpTo [] ≡ 0
 unfolding validUpTo goodBytes
 valid-nil = rw chars-nil
 
-good-within : (l : List ℕ) → goodBytes l ≤ bytes l
-unfolding goodBytes bytes
+good-within : (l : List ℕ) → goodBytes l ≤ byteLength l
+unfolding goodBytes byteLength
 good-within [] = omega arith
 good-within (c ∷ l) = by-test (isChar c) (λ h. rw h (omega (arith, good-within l))) (λ h. rw h (omega arith))
 
@@ -169,8 +170,8 @@ unfolding encodeAll
 encode-append [] b = refl
 encode-append (c ∷ a) b = rw (encode-append a b) (sym (append-assoc (encode c) (encodeAll a) (encodeAll b)))
 
-pub encode-bytes : (t : List ℕ) → all isScalar t ≡ true → length (encodeAll t) ≡ bytes t
-unfolding encodeAll bytes all
+pub encode-bytes : (t : List ℕ) → all isScalar t ≡ true → length (encodeAll t) ≡ byteLength t
+unfolding encodeAll byteLength all
 encode-bytes [] h = refl
 encode-bytes (c ∷ t) h =
     let e = both (isScalar c) (all isScalar t) h in

@@ -1,4 +1,4 @@
 pub mod Ranges
 pub mod Utf8
-pub mod Wide
 pub mod Text
+pub mod Steps

@@ -4,8 +4,8 @@ ghost use Prim.Native.Nat.{ℕ, _+_, _≤_, _<_, min};
 ghost use lib.ListN.{length, getD, drop};
 ghost use Rattle.unicode.specs.Ranges.{_to_, inRange};
 ghost use Rattle.unicode.specs.Utf8.{first, noChar, validUpTo};
-ghost use Rattle.unicode.specs.Wide.{Reads, low, high, two, three, four, free, Stood, whole};
-ghost use Rattle.unicode.specs.Text.{Decoded, Passed};
+ghost use Rattle.unicode.specs.Steps.{Reads, low, high, two, three, four, free, Stood, whole, Passed};
+ghost use Rattle.unicode.specs.Text.{Decoded};
 
 // Where the numbers begin that are no characters.
 pub const NO_CHAR: u32 = 1114112;

@@ -1,5 +1,5 @@
 use mathlib.Core.Path.{refl}
-use Rattle.lists.specs.Values.{valuesFrom}
+use Rattle.lists.specs.Steps.{valuesFrom}
 use Rattle.ucd.specs.Ucd.{xidStart, xidContinue, emoji}
 use Rattle.renewal.specs.Key.{bodyLength}
 use Rattle.renewal.specs.Steps.{bodies}

@@ -3,9 +3,9 @@ use native.Mathlib.Omega.{arith}
 use mathlib.Core.Path.{_≡_}
 use lib.ListN.{length}
 use Rattle.lexer.specs.Unicode.{lent}
-use Rattle.lexer.specs.Outcome.{tokensBy}
+use Rattle.lexer.specs.Promises.{tokensBy}
 use Rattle.renewal.proofs.Walking.{Walking, walking-none}
-use Rattle.renewal.proofs.Cutter.{run-ready, run-on, run-less, run-done}
+use Rattle.renewal.proofs.Keyable.{run-ready, run-on, run-less, run-done}
 use borrow.Author.Needs.{needs}
 use Rattle.renewal.proofs.walk.walk.Statement.{statement}
 use Rattle.renewal.proofs.walk.walk.Tie as tie

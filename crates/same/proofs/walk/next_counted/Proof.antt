@@ -2,7 +2,7 @@ use Prim.Native.Nat.{_-_}
 use native.Mathlib.Omega.{arith}
 use lib.ListN.{length}
 use Rattle.lexer.specs.Unicode.{lent}
-use Rattle.lexer.specs.Outcome.{tokensBy}
+use Rattle.lexer.specs.Promises.{tokensBy}
 use Rattle.same.proofs.Ahead.{Seeking, seeking, token-some}
 use borrow.Author.Needs.{needs}
 use Rattle.same.proofs.walk.next_counted.Statement.{statement}

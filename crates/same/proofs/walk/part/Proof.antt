@@ -1,7 +1,7 @@
 use Prim.Native.Nat.{_-_}
 use lib.ListN.{length}
 use Rattle.lexer.specs.Unicode.{lent}
-use Rattle.lexer.specs.Outcome.{tokensBy}
+use Rattle.lexer.specs.Promises.{tokensBy}
 use Rattle.same.proofs.Parting.{Parting, parting}
 use borrow.Author.Needs.{needs}
 use Rattle.same.proofs.walk.part.Statement.{statement}

@@ -1,6 +1,6 @@
 use Rattle.unescape.specs.Bodies.{isSkipped, sawLf}
 use Rattle.unicode.proofs.Text.{eating, decoded-fits, decoded-some}
-use Rattle.unicode.specs.Text.{Eating}
+use Rattle.unicode.specs.Steps.{Eating}
 use lib.ListN.{length}
 use mathlib.Core.Bool.{false}
 use Prim.Native.Nat.{_-_}

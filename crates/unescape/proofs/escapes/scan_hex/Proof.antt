@@ -1,5 +1,5 @@
 use mathlib.Core.Path.{refl}
-use Rattle.lists.specs.Values.{valuesFrom}
+use Rattle.lists.specs.Steps.{valuesFrom}
 use Rattle.unescape.specs.Escapes.{toDigit}
 use Rattle.unescape.specs.Steps.{digitValues}
 use borrow.Author.Needs.{needs}

@@ -1,5 +1,5 @@
 use borrow.Author.Tests.{eq-eqb, ne-eqb}
-use Rattle.unicode.specs.Wide.{high}
+use Rattle.unicode.specs.Steps.{high}
 use Rattle.unicode.proofs.utf8.high_of.Statement.{statement}
 use Rattle.unicode.proofs.utf8.high_of.Tie as tie
 

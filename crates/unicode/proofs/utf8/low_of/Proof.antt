@@ -1,5 +1,5 @@
 use borrow.Author.Tests.{eq-eqb, ne-eqb}
-use Rattle.unicode.specs.Wide.{low}
+use Rattle.unicode.specs.Steps.{low}
 use Rattle.unicode.proofs.utf8.low_of.Statement.{statement}
 use Rattle.unicode.proofs.utf8.low_of.Tie as tie
 

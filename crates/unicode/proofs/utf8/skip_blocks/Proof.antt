@@ -2,7 +2,7 @@ use mathlib.Core.Path.{refl}
 use native.Mathlib.Omega.{arith}
 use Prim.Native.Nat.{_-_}
 use lib.ListN.{length}
-use Rattle.unicode.specs.Text.{Passed}
+use Rattle.unicode.specs.Steps.{Passed}
 use Rattle.unicode.proofs.Valid.{passed-none, walk-block}
 use borrow.Author.Needs.{needs}
 use Rattle.unicode.proofs.utf8.skip_blocks.Statement.{statement}

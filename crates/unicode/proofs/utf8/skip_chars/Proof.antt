@@ -3,7 +3,7 @@ use mathlib.Core.List.{List}
 use Prim.Native.Nat.{ℕ, _+_, _-_, _<_}
 use native.Mathlib.Omega.{arith}
 use lib.ListN.{length, getD}
-use Rattle.unicode.specs.Text.{Passed}
+use Rattle.unicode.specs.Steps.{Passed}
 use Rattle.unicode.proofs.Reading.{decoded-ascii}
 use Rattle.unicode.proofs.Text.{decoded-fits, decoded-some}
 use Rattle.unicode.proofs.Valid.{passed-none, walk-on, walk-stop}

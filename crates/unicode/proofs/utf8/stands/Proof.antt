@@ -6,7 +6,7 @@ use mathlib.Core.List.{List}
 use mathlib.Core.Logic.{⊎-elim}
 use lib.ListN.{getD}
 use borrow.Author.Needs.{needs}
-use Rattle.unicode.specs.Wide.{Stood}
+use Rattle.unicode.specs.Steps.{Stood}
 use Rattle.unicode.proofs.Blocks.{stood-up}
 use Rattle.unicode.proofs.utf8.stands.Statement.{statement}
 use Rattle.unicode.proofs.utf8.stands.Tie as tie

@@ -1,7 +1,7 @@
 use Prim.Native.Nat.{_-_}
 use denote.Ref.{now}
 use lib.ListN.{length}
-use Rattle.unicode.specs.Text.{Passed}
+use Rattle.unicode.specs.Steps.{Passed}
 use Rattle.unicode.proofs.Valid.{passed-none, passed-then, walked, walked-all}
 use borrow.Author.Needs.{needs}
 use Rattle.unicode.proofs.utf8.valid_up_to.Statement.{statement}

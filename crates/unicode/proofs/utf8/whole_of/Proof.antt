@@ -1,6 +1,6 @@
 use native.Mathlib.Omega.{arith}
 use borrow.Author.Tests.{le-ltb, lt-ltb}
-use Rattle.unicode.specs.Wide.{whole}
+use Rattle.unicode.specs.Steps.{whole}
 use Rattle.unicode.proofs.utf8.whole_of.Statement.{statement}
 use Rattle.unicode.proofs.utf8.whole_of.Tie as tie
 

@@ -1,6 +1,7 @@
 use Prim.Native.Nat.{_-_}
 use lib.ListN.{length}
-use Rattle.unicode.specs.Text.{Eating, keep}
+use Rattle.unicode.specs.Steps.{Eating}
+use Rattle.unicode.specs.Text.{keep}
 use Rattle.unicode.proofs.Text.{eating}
 use Rattle.unicode.proofs.Ascii.{ascii}
 use Rattle.lexer.specs.Unicode.{moreIn}

@@ -1,19 +1,20 @@
 use Prim.Native.Nat.{_-_}
 use native.Mathlib.Omega.{arith}
 use lib.ListN.{length}
-use Rattle.unicode.specs.Text.{Eating, keep}
+use Rattle.unicode.specs.Steps.{Eating}
+use Rattle.unicode.specs.Text.{keep}
 use Rattle.unicode.proofs.Text.{eating, decoded-fits, decoded-some}
 use Rattle.lexer.specs.Cut.{goesOn}
-use Rattle.lexer.specs.Unicode.{lent}
+use Rattle.lexer.specs.Unicode.{moreIn, emojiIn}
 use borrow.Author.Needs.{needs}
 use Rattle.lexer.proofs.cursor.Cursor.eat_fake.Statement.{statement}
 use Rattle.lexer.proofs.cursor.Cursor.eat_fake.Tie as tie
 
 abbrev Inv-loop : tie.InvT-loop
-Inv-loop text start more emoji at₀ at = Eating (goesOn (lent start more emoji)) keep text at₀ tt at tt
+Inv-loop text more emoji at₀ at = Eating (goesOn (moreIn more) (emojiIn emoji)) keep text at₀ tt at tt
 
 abbrev μ-loop : tie.MeasureT-loop
-μ-loop text start more emoji at₀ at = length text - at
+μ-loop text more emoji at₀ at = length text - at
 
 loop-holds : tie.Need-loop-holds Inv-loop μ-loop
 loop-holds c = search (needs, eating)

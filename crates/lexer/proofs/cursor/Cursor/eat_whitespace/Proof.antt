@@ -1,7 +1,8 @@
 use Prim.Native.Nat.{_-_}
 use native.Mathlib.Omega.{arith}
 use lib.ListN.{length}
-use Rattle.unicode.specs.Text.{Eating, keep}
+use Rattle.unicode.specs.Steps.{Eating}
+use Rattle.unicode.specs.Text.{keep}
 use Rattle.unicode.proofs.Text.{eating, decoded-fits, decoded-some}
 use Rattle.unicode.proofs.Ascii.{ascii}
 use Rattle.letters.specs.Chars.{isWhitespace}

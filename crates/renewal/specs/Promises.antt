@@ -21,4 +21,4 @@ keyed s profile key =
 
 pub record Keyed (s : List ℕ) (profile : ℕ) (key : List ℕ) (number also : ℕ) (key′ : List ℕ) : Type 0 where
   pub answer : Answered (answerOf s profile (length key)) number also
-  pub bytes : key′ ≡ keyed s profile key
+  pub key-is : key′ ≡ keyed s profile key

@@ -10,22 +10,22 @@ use lib.Dec.{eqb}
 use lib.ListN.{length, take, drop, getD, length-append, length-drop}
 use lib.Seq.{length-take-le}
 use borrow.Author.Tests.{lt-ltb, le-ltb}
-use Rattle.lists.specs.Put.{PutIf}
+use Rattle.lists.specs.Steps.{PutIf}
 use Rattle.unicode.specs.Utf8.{first, chars, width}
-use Rattle.unicode.specs.Text.{bytes}
+use Rattle.unicode.specs.Text.{byteLength}
 use Rattle.unicode.proofs.Text.{chars-nil, chars-first, bytes-chars}
 use Rattle.unicode.proofs.Ascii.{chars-ascii, wide-code}
 use Rattle.text.specs.Answer.{longest}
-use Rattle.lexer.specs.Cut.{Letters, Tok, Token, advance, piece, tokens, flat, total}
+use Rattle.lexer.specs.Cut.{Letters, Token, Piece, advance, nextToken, tokens, flat, total}
 use Rattle.lexer.specs.Unicode.{unicode}
-use Rattle.lexer.specs.Outcome.{tokensOf, run, CutRun, tokensBy}
+use Rattle.lexer.specs.Promises.{tokensOf, run, CutRun, tokensBy}
 use Rattle.lexer.proofs.Shapes.{Shape, plain, literal, advance-shape, tokens-nil}
 use Rattle.lexer.proofs.Whole.{length-flat}
 use Rattle.tokens.proofs.First.{tokens-first, first-some}
 use Rattle.tokens.proofs.Tiling.{formed-of}
 use Rattle.tokens.specs.Members.{isCounted, memberOf}
 use Rattle.renewal.specs.Key.{noBody, bodyLength}
-use Rattle.renewal.specs.Rules.{Ruled, mark, stored, First, Cutter, ownBytes}
+use Rattle.renewal.specs.Rules.{Ruled, mark, stored, First, Keyable, ownBytes}
 use Rattle.renewal.specs.Rules as rules
 use Rattle.renewal.specs.Steps.{bodies, toks, entries, RunReady, Walked}
 use Rattle.renewal.proofs.Bodies.{plain-known, literal-known, plain-body, literal-body, empty-mark}
@@ -47,7 +47,7 @@ ascii-byte c t (a ∷ s) e h =
 
 module _ (u : Letters) (profile : ℕ) where
   -- ---- the kinds that stand in keys are those that are counted
-  shape-known : (c : ℕ) (t : List ℕ) (a : Token) → Shape c t a → eqb (bodyLength (a .kind)) noBody ≡ not (isCounted (a .kind))
+  shape-known : (c : ℕ) (t : List ℕ) (a : Piece) → Shape c t a → eqb (bodyLength (a .kind)) noBody ≡ not (isCounted (a .kind))
   shape-known c t a (plain k m e) = plain-known (a .kind) k
   shape-known c t a (literal k m e) = literal-known (a .kind) k
 
@@ -56,22 +56,22 @@ module _ (u : Letters) (profile : ℕ) where
 
   module _ (c : ℕ) (t s : List ℕ) (v : chars s ≡ c ∷ t) where
     -- the first token of the text s
-    abbrev front : Tok
-    front = record { kind = advance u profile c t .kind; len = bytes (c ∷ t) - bytes (advance u profile c t .rest); suff = bytes (c ∷ t) - bytes (advance u profile c t .suff) }
+    abbrev front : Token
+    front = record { kind = advance u profile c t .kind; len = byteLength (c ∷ t) - byteLength (advance u profile c t .rest); suffix = byteLength (c ∷ t) - byteLength (advance u profile c t .fromSuffix) }
 
     front-within : front .len ≤ length s
-    front-within = omega (arith, bytes-chars s, ap bytes v)
+    front-within = omega (arith, bytes-chars s, ap byteLength v)
 
     front-bytes : length (take (front .len) s) ≡ front .len
     front-bytes = length-take-le (front .len) s front-within
 
     -- a mark is one byte, its own
     front-mark : bodyLength (front .kind) ≡ 0 → (front .len ≡ 1) × (take (front .len) s ≡ ownBytes (front .kind)) × (ownBytes (front .kind) ≡ c ∷ [])
-    unfolding bytes width
+    unfolding byteLength width
     front-mark z =
         let o = advance-mark u profile c t (empty-mark (front .kind) z) in
         let w : width c ≡ 1 = rw (lt-ltb c 0x80 (o .small)) in
-        let l : front .len ≡ 1 = omega (arith, w, ap bytes (o .rest)) in
+        let l : front .len ≡ 1 = omega (arith, w, ap byteLength (o .rest)) in
         (l, ap (λ (n : ℕ). take n s) l ∙ ascii-byte c t s v (o .small) ∙ sym (o .bytes), o .bytes)
 
     front-ruled : Shape c t (advance u profile c t) → length s ≤ longest → isCounted (front .kind) ≡ true → Ruled (memberOf s front)
@@ -87,7 +87,7 @@ module _ (u : Letters) (profile : ℕ) where
         stored (λ z. omega arith) (rules.literal b (f .literal k .0) (f .literal k .1) (omega (arith, front-within)) front-bytes)
 
     cut-first : First (tokensBy u profile) s
-    unfolding piece
+    unfolding nextToken
     cut-first =
         record {
           token = front;
@@ -101,21 +101,21 @@ module _ (u : Letters) (profile : ℕ) where
   cut-none : tokensBy u profile [] ≡ []
   cut-none = ap (tokens u profile) chars-nil ∙ tokens-nil u profile
 
-  pub cutter : Cutter (tokensBy u profile)
-  cutter =
+  pub keyable : Keyable (tokensBy u profile)
+  keyable =
       record {
         none = cut-none;
         first = λ a s. cut-first (first (a ∷ s) .0) (chars (drop (first (a ∷ s) .1) (a ∷ s))) (a ∷ s) (chars-first (a ∷ s) (omega arith));
       }
 
 -- that of the profiles
-pub profile-cutter : (profile : ℕ) → Cutter (tokensOf profile)
+pub profile-keyable : (profile : ℕ) → Keyable (tokensOf profile)
 unfolding tokensOf
-profile-cutter profile = cutter unicode profile
+profile-keyable profile = keyable unicode profile
 
 -- ---- what `cut_run` gives are the tokens at the front
 module _ {u : Letters} {profile : ℕ} {s list list′ : List ℕ} {at at′ count : ℕ} (l : length list ≡ 192) (short : length s ≤ longest) (r : CutRun u profile s at list at′ count list′) where
-  abbrev ts : List Tok
+  abbrev ts : List Token
   ts = take 64 (tokensBy u profile (drop at s))
 
   run-is : run u profile s at (length list / 3) ≡ ts
@@ -138,14 +138,14 @@ module _ {u : Letters} {profile : ℕ} {s list list′ : List ℕ} {at at′ cou
   run-end = r .reached ∙ rw run-is
 
   pub run-less : at < length s → at < at′
-  run-less h = omega (arith, run-end, taken-some (cutter u profile) 63 (drop at s) (omega (arith, length-drop at s)))
+  run-less h = omega (arith, run-end, taken-some (keyable u profile) 63 (drop at s) (omega (arith, length-drop at s)))
 
   module _ {write : Bool} {key₀ key : List ℕ} {n : ℕ} (w : Walking (tokensBy u profile) s write key₀ at n key) where
     pub run-ready : {table : List ℕ} → table ≡ bodies → RunReady table write n s at list′ count key
-    run-ready b = walk-ready list′ count w (taken (cutter u profile) 64 (drop at s)) tokens-are b short run-words
+    run-ready b = walk-ready list′ count w (taken (keyable u profile) 64 (drop at s)) tokens-are b short run-words
 
     pub run-on : {n′ : ℕ} {key′ : List ℕ} → PutIf write key n (entries (drop at s) (toks list′ 0 count)) key′ n′ → Walking (tokensBy u profile) s write key₀ at′ n′ key′
-    run-on = walk-on list′ count w (taken (cutter u profile) 64 (drop at s)) tokens-are run-end
+    run-on = walk-on list′ count w (taken (keyable u profile) 64 (drop at s)) tokens-are run-end
 
 pub run-done : (u : Letters) (profile : ℕ) {s key₀ key : List ℕ} {write : Bool} {at n : ℕ} → Walking (tokensBy u profile) s write key₀ at n key → length s ≤ at → Walked (tokensBy u profile) s write key₀ n key
 run-done u profile w h = walk-end (cut-none u profile) w h

@@ -1,38 +1,17 @@
--- Runs of tokens that do not count, and what is done to a text: a newline in place of a part, bytes put in.
+-- What the corollaries of the newline clause speak of: how a text's last token stands, bytes put into a text, and an LF in white space.
 -- Assumes nothing.
 use Prim.Native.Nat.{ℕ, _+_, _≤_, _<_}
 use mathlib.Core.Path.{_≡_}
-use mathlib.Core.Bool.{Bool, true, false, not, _||_}
+use mathlib.Core.Bool.{Bool, true, false, _||_}
 use mathlib.Core.List.{List, [], _∷_, _++_}
 use lib.Dec.{eqb}
 use lib.ListN.{length, take, drop}
-use Rattle.lists.specs.All.{all}
 use Rattle.lexer.specs.Kinds.{lineComment, unclosedComment, whitespaceKind, pragma, annotation, str, bitStr}
-use Rattle.lexer.specs.Cut.{Tok, total}
-use Rattle.lexer.specs.Outcome.{tokensOf}
-use Rattle.tokens.specs.Members.{isCounted}
-
--- no token counts
-abbrev pub noneCount : List Tok → Bool
-noneCount ts = all (λ t. not (isCounted (t .kind))) ts
-
--- an unbroken run of one or more tokens that do not count stands in s, from one place to another; tokens before and behind it may be of any kind
-pub record Run (profile : ℕ) (s : List ℕ) (from to : ℕ) : Type 0 where
-  pub before : List Tok
-  pub run : List Tok
-  pub behind : List Tok
-  pub is : tokensOf profile s ≡ before ++ (run ++ behind)
-  pub some : 1 ≤ length run
-  pub uncounted : noneCount run ≡ true
-  pub starts : from ≡ total before
-  pub ends : to ≡ total before + total run
-
--- one newline in place of the bytes from one place to another
-unfoldable pub withNewline : List ℕ → ℕ → ℕ → List ℕ
-withNewline s from to = take from s ++ 0x0A ∷ drop to s
+use Rattle.lexer.specs.Cut.{Token, total}
+use Rattle.lexer.specs.Promises.{tokensOf}
 
 -- the last token passes a test
-unfoldable pub lastIs : (ℕ → Bool) → List Tok → Bool
+unfoldable pub lastIs : (ℕ → Bool) → List Token → Bool
 lastIs p [] = false
 lastIs p (t ∷ []) = p (t .kind)
 lastIs p (t ∷ x ∷ ts) = lastIs p (x ∷ ts)
@@ -50,9 +29,9 @@ abbrev pub isKept : ℕ → Bool
 isKept k = eqb k pragma || eqb k annotation
 
 -- a token of s ends at a place
-pub record EndsAt (profile : ℕ) (s : List ℕ) (at : ℕ) (t : Tok) : Type 0 where
-  pub before : List Tok
-  pub behind : List Tok
+pub record EndsAt (profile : ℕ) (s : List ℕ) (at : ℕ) (t : Token) : Type 0 where
+  pub before : List Token
+  pub behind : List Token
   pub is : tokensOf profile s ≡ before ++ (t ∷ behind)
   pub place : at ≡ total before + t .len
 
@@ -62,9 +41,9 @@ inserted s at v = take at s ++ (v ++ drop at s)
 
 -- the LF between the bytes a and b stands in white space, and does not end a Pragma or an Annotation
 pub record LfIn (profile : ℕ) (a b : List ℕ) : Type 0 where
-  pub before : List Tok
-  pub token : Tok
-  pub behind : List Tok
+  pub before : List Token
+  pub token : Token
+  pub behind : List Token
   pub is : tokensOf profile (a ++ 0x0A ∷ b) ≡ before ++ (token ∷ behind)
   pub white : token .kind ≡ whitespaceKind
   pub starts : total before ≤ length a

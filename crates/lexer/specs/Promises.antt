@@ -12,14 +12,14 @@ use Rattle.unicode.specs.Text.{left}
 use Rattle.text.specs.Answer.{Answered, done, longest, checkText, checkCut, checkRoom, _andThen_}
 use Rattle.letters.specs.Chars.{isIdent}
 use Rattle.lexer.specs.Kinds.{eof}
-use Rattle.lexer.specs.Cut.{Letters, Tok, tokens, flat, total}
+use Rattle.lexer.specs.Cut.{Letters, Token, tokens, flat, total}
 use Rattle.lexer.specs.Unicode.{unicode}
 
 -- the tokens of a text, over any letters, and over Unicode's
-abbrev pub tokensBy : Letters → ℕ → List ℕ → List Tok
+abbrev pub tokensBy : Letters → ℕ → List ℕ → List Token
 tokensBy u profile s = tokens u profile (chars s)
 
-unfoldable pub tokensOf : ℕ → List ℕ → List Tok
+unfoldable pub tokensOf : ℕ → List ℕ → List Token
 tokensOf profile s = tokensBy unicode profile s
 
 -- the number and what is also returned, for a list of so many words: three words for each token
@@ -35,38 +35,31 @@ pub record Listed (s : List ℕ) (profile : ℕ) (list : List ℕ) (number also 
   pub answer : Answered (answerOf s profile (length list)) number also
   pub words : list′ ≡ listed s profile list
 
--- the tokens from a place on, as many as there is room for
-abbrev pub runFrom : Letters → ℕ → List ℕ → ℕ → ℕ → List Tok
-runFrom u profile s from room = take room (tokens u profile (left s from))
+-- the tokens from a place on, as many as there is room for; of a text of more than 4,294,967,295 bytes, none
+unfoldable pub run : Letters → ℕ → List ℕ → ℕ → ℕ → List Token
+run u profile s from room = cond (ltb longest (length s)) [] (take room (tokens u profile (left s from)))
 
--- of a text of more than 4,294,967,295 bytes, none
-unfoldable pub run : Letters → ℕ → List ℕ → ℕ → ℕ → List Tok
-run u profile s from room = cond (ltb longest (length s)) [] (runFrom u profile s from room)
-
--- those that a list has room for: three words for each
-abbrev pub runInto : Letters → ℕ → List ℕ → ℕ → List ℕ → List Tok
-runInto u profile s from list = run u profile s from (length list / 3)
-
--- what `cut_run` answers and leaves: the place behind them, how many they are; their words, and behind them what stood there
+-- what `cut_run` answers and leaves, three words for each token: the place behind them, how many they are; their words, and behind them what
+-- stood there
 pub record CutRun (u : Letters) (profile : ℕ) (s : List ℕ) (from : ℕ) (list : List ℕ) (at count : ℕ) (list′ : List ℕ) : Type 0 where
-  pub reached : at ≡ from + total (runInto u profile s from list)
-  pub many : count ≡ length (runInto u profile s from list)
-  pub words : list′ ≡ over (flat (runInto u profile s from list)) list
+  pub reached : at ≡ from + total (run u profile s from (length list / 3))
+  pub many : count ≡ length (run u profile s from (length list / 3))
+  pub words : list′ ≡ over (flat (run u profile s from (length list / 3))) list
 
 -- the first of some tokens; of none, the end of the text, of no length
-unfoldable pub front : List Tok → Tok
-front [] = record { kind = eof; len = 0; suff = 0 }
+unfoldable pub front : List Token → Token
+front [] = record { kind = eof; len = 0; suffix = 0 }
 front (t ∷ ts) = t
 
 -- the token at a place, by a run of one
-abbrev pub tokenAt : Letters → ℕ → List ℕ → ℕ → Tok
+abbrev pub tokenAt : Letters → ℕ → List ℕ → ℕ → Token
 tokenAt u profile s at = front (run u profile s at 1)
 
 -- what `token_at` answers: its kind, where its suffix starts (of no literal, where it starts itself), and where it ends
-pub record TokenAt (u : Letters) (profile : ℕ) (s : List ℕ) (at kind suff end : ℕ) : Type 0 where
-  pub what : kind ≡ tokenAt u profile s at .kind
-  pub start : suff ≡ at + tokenAt u profile s at .suff
-  pub place : end ≡ at + tokenAt u profile s at .len
+pub record TokenAt (u : Letters) (profile : ℕ) (s : List ℕ) (at kind suffixAt end : ℕ) : Type 0 where
+  pub kind-is : kind ≡ tokenAt u profile s at .kind
+  pub suffix-is : suffixAt ≡ at + tokenAt u profile s at .suffix
+  pub end-is : end ≡ at + tokenAt u profile s at .len
 
 -- whether a text is an identifier: 1 for yes, 0 for no
 unfoldable pub identified : List ℕ → ℕ × ℕ
