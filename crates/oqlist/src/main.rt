@@ -1,4 +1,9 @@
 // Prints the tokens of standard input, under the default profile: how many, and then kind, length and suffix start of each.
+//
+// What keeps it from reading or writing goes to standard error. It has no exit status of its own: the launcher gives 0 for
+// tokens, 1 for a refusal and 2 for all else.
+ghost use Prim.Native.Nat.{_≤_};
+ghost use lib.ListN.{length};
 use libc::STDIN_FILENO;
 use libc::STDOUT_FILENO;
 use text::Answer;
@@ -12,72 +17,137 @@ const BUFFER: usize = MOST + 1;
 // Three words for each byte: room that cannot be short.
 const LIST: usize = 3 * MOST;
 
-fn print(bytes: &[u8]) {
-    io::write_all(STDOUT_FILENO, bytes);
+// Whether reading went well, and how many bytes there are.
+struct Input {
+    whole: bool,
+    len: usize,
 }
 
-fn print_number(number: u64) {
-    let mut digits = [0u8; 20];
-    let k = io::decimal(number, &mut digits);
-    print(&digits[..k]);
+// Whether it was written, as of each function here that prints.
+fn print(bytes: &[u8]) -> bool {
+    io::write_all(STDOUT_FILENO, bytes)
 }
 
-fn print_word(word: u32) {
-    print_number(word as u64);
+fn print_number(number: u64) -> bool {
+    io::print_decimal(STDOUT_FILENO, number)
 }
 
-fn print_refusal(given: Answer) {
-    print(b"refused ");
-    print_word(given.number);
-    print(b" ");
-    print_number(given.also);
-    print(b"\n");
+fn print_word(word: u32) -> bool {
+    print_number(word as u64)
+}
+
+fn print_refusal(given: Answer) -> bool {
+    if !print(b"refused ") {
+        return false;
+    }
+    if !print_word(given.number) {
+        return false;
+    }
+    if !print(b" ") {
+        return false;
+    }
+    if !print_number(given.also) {
+        return false;
+    }
+    print(b"\n")
 }
 
 // What stands behind a word of the list.
-fn print_gap(i: usize) {
+fn print_gap(i: usize) -> bool {
     if i % 3 == 2 {
-        print(b"\n");
+        print(b"\n")
     } else {
-        print(b" ");
+        print(b" ")
     }
 }
 
 // The first n records of the list, one a line.
-fn print_records(list: &[u32], n: u64) {
+fn print_records(list: &[u32], n: u64) -> bool {
     let mut i = 0;
     while i < list.len() {
         if n <= (i / 3) as u64 {
-            return;
+            return true;
         }
-        print_word(list[i]);
-        print_gap(i);
+        if !print_word(list[i]) {
+            return false;
+        }
+        if !print_gap(i) {
+            return false;
+        }
         i += 1;
     }
+    true
 }
 
-fn list_tokens(text: &[u8], list: &mut [u32]) {
+fn list_tokens(text: &[u8], list: &mut [u32]) -> bool {
     let given = lexer::list::tokenize(text, text::DEFAULT_PROFILE, list);
     if given.number != text::DONE {
-        print_refusal(given);
-        return;
+        return print_refusal(given);
     }
-    print(b"tokens ");
-    print_number(given.also);
-    print(b"\n");
-    print_records(list, given.also);
+    if !print(b"tokens ") {
+        return false;
+    }
+    if !print_number(given.also) {
+        return false;
+    }
+    if !print(b"\n") {
+        return false;
+    }
+    print_records(list, given.also)
 }
 
-fn main() {
-    let mut input = [0u8; BUFFER];
-    let n = io::read_full(STDIN_FILENO, &mut input);
-    if MOST < n {
-        print_refusal(Answer {
+// One read of standard input: none of it is left where it went well and gave no byte.
+fn read_some(room: &mut [u8]) -> Input
+    ensures { λ r. ⌜ r .len ≤ length (now (room .exit)) ⌝ }
+{
+    let got = libc::read(STDIN_FILENO, room);
+    let whole = 0 <= got;
+    let len = io::count(got, room);
+    Input { whole, len }
+}
+
+// Standard input to its end, or as much of it as there is room for.
+fn read_input(room: &mut [u8]) -> Input
+    ensures { λ r. ⌜ r .len ≤ length (now (room .exit)) ⌝ }
+{
+    let mut len = 0;
+    while len < room.len() {
+        let more = read_some(&mut room[len..]);
+        if !more.whole {
+            return Input { whole: false, len };
+        }
+        if more.len == 0 {
+            break;
+        }
+        len += more.len;
+    }
+    Input { whole: true, len }
+}
+
+fn answer(input: &[u8]) -> bool {
+    if MOST < input.len() {
+        return print_refusal(Answer {
             number: text::TOO_LONG,
             also: 0,
         });
-        return;
     }
     let mut list = [0u32; LIST];
-    list_tokens(&input[..n], &mut list);
+    list_tokens(input, &mut list)
+}
+
+fn run(room: &mut [u8]) {
+    let input = read_input(room);
+    if !input.whole {
+        os::fail(b"oqlist: standard input");
+        return;
+    }
+    let n = input.len;
+    if !answer(&room[0..n]) {
+        os::fail(b"oqlist: standard output");
+    }
+}
+
+fn main() {
+    let mut room = [0u8; BUFFER];
+    run(&mut room);
 }

@@ -6,15 +6,18 @@
 // or, on the line behind `different`, the first counted token that differs: its number from 1 and where it stands in each file
 // (`end` where a file has no more; places and lengths in bytes, lines and columns from 1, a column being a character)
 //     different
-//     token NUMBER, old kind KIND start START length LENGTH line LINE column COLUMN, new end
+//     token NUMBER, old kind KIND (NAME OF THE KIND) start START length LENGTH line LINE column COLUMN, new end
 // or the answer to a file that is refused, with its name
 //     refused NUMBER ALSO NAME
-// What keeps it from comparing goes to standard error. It has no exit status of its own: the launcher gives 0 for same, 1 for
+// What keeps it from comparing or writing goes to standard error. It has no exit status of its own: the launcher gives 0 for same, 1 for
 // different and 2 for all else.
+mod kinds;
+
 ghost use Prim.Native.Nat.{_≤_};
 ghost use lib.ListN.{length};
 use libc::STDERR_FILENO;
 use libc::STDOUT_FILENO;
+use same::Comparison;
 use same::Sight;
 use text::Answer;
 
@@ -27,60 +30,106 @@ struct Input {
     len: usize,
 }
 
-fn print(bytes: &[u8]) {
-    io::write_all(STDOUT_FILENO, bytes);
+// Whether it was written, as of each function here that prints.
+fn print(bytes: &[u8]) -> bool {
+    io::write_all(STDOUT_FILENO, bytes)
 }
 
 fn complain(bytes: &[u8]) {
     io::write_all(STDERR_FILENO, bytes);
 }
 
-fn print_number(label: &[u8], number: u64) {
-    print(label);
-    io::print_decimal(STDOUT_FILENO, number);
-}
-
-fn print_sight(label: &[u8], text: &[u8], sight: Sight) {
-    print(label);
-    if sight.len == 0 {
-        print(b" end");
-        return;
+fn print_number(label: &[u8], number: u64) -> bool {
+    if !print(label) {
+        return false;
     }
-    let place = same::place_of(text, sight.start);
-    print_number(b" kind ", sight.kind as u64);
-    print_number(b" start ", sight.start as u64);
-    print_number(b" length ", sight.len as u64);
-    print_number(b" line ", place.line as u64);
-    print_number(b" column ", place.column as u64);
+    io::print_decimal(STDOUT_FILENO, number)
 }
 
-fn print_refusal(name: &[u8], given: Answer) {
-    print_number(b"refused ", given.number as u64);
-    print_number(b" ", given.also);
-    print(b" ");
-    print(name);
-    print(b"\n");
+fn print_kind(kind: u32) -> bool {
+    if !print_number(b" kind ", kind as u64) {
+        return false;
+    }
+    if !print(b" (") {
+        return false;
+    }
+    if !kinds::print_kind(kind) {
+        return false;
+    }
+    print(b")")
 }
 
-fn compare_texts(old: &[u8], old_name: &[u8], new: &[u8], new_name: &[u8]) {
+fn print_place(text: &[u8], at: usize) -> bool {
+    let place = same::place_of(text, at);
+    if !print_number(b" line ", place.line as u64) {
+        return false;
+    }
+    print_number(b" column ", place.column as u64)
+}
+
+fn print_sight(label: &[u8], text: &[u8], sight: Sight) -> bool {
+    if !print(label) {
+        return false;
+    }
+    if sight.len == 0 {
+        return print(b" end");
+    }
+    if !print_kind(sight.kind) {
+        return false;
+    }
+    if !print_number(b" start ", sight.start as u64) {
+        return false;
+    }
+    if !print_number(b" length ", sight.len as u64) {
+        return false;
+    }
+    print_place(text, sight.start)
+}
+
+fn print_refusal(name: &[u8], given: Answer) -> bool {
+    if !print_number(b"refused ", given.number as u64) {
+        return false;
+    }
+    if !print_number(b" ", given.also) {
+        return false;
+    }
+    if !print(b" ") {
+        return false;
+    }
+    if !print(name) {
+        return false;
+    }
+    print(b"\n")
+}
+
+fn print_difference(old: &[u8], new: &[u8], c: Comparison) -> bool {
+    if !print_number(
+        b"different\ntoken ",
+        std::num::wrapping_add_u64(c.agreed as u64, 1),
+    ) {
+        return false;
+    }
+    if !print_sight(b", old", old, c.old) {
+        return false;
+    }
+    if !print_sight(b", new", new, c.new) {
+        return false;
+    }
+    print(b"\n")
+}
+
+fn compare_texts(old: &[u8], old_name: &[u8], new: &[u8], new_name: &[u8]) -> bool {
     let c = same::compare(old, new, text::DEFAULT_PROFILE);
     if c.verdict == same::SAME {
-        print(b"same\n");
-        return;
+        return print(b"same\n");
     }
     if c.verdict == same::OLD_REFUSED {
-        print_refusal(old_name, c.refusal);
-        return;
+        return print_refusal(old_name, c.refusal);
     }
     if c.verdict == same::NEW_REFUSED {
-        print_refusal(new_name, c.refusal);
-        return;
+        return print_refusal(new_name, c.refusal);
     }
-    print(b"different\n");
-    print_number(b"token ", std::num::wrapping_add_u64(c.agreed as u64, 1));
-    print_sight(b", old", old, c.old);
-    print_sight(b", new", new, c.new);
-    print(b"\n");
+    print_difference(old, new, c)
 }
 
 // Whether the file ends where reading stopped; if not, why it cannot be compared.
@@ -135,7 +184,9 @@ fn compare_files(old: &mut [u8], old_name: &[u8], new: &mut [u8], new_name: &[u8
     }
     let a = first.len;
     let b = second.len;
-    compare_texts(&old[0..a], old_name, &new[0..b], new_name);
+    if !compare_texts(&old[0..a], old_name, &new[0..b], new_name) {
+        os::fail(b"oqsame: standard output");
+    }
 }
 
 // Reads the two names.

@@ -26,8 +26,14 @@ shared-slice-read-print-word c = search needs
 print-word-requires : tie.Need-print-word-requires Inv-loop μ-loop
 print-word-requires c κs = search needs
 
+returns-2 : tie.Need-returns-2 Inv-loop μ-loop
+returns-2 c = search needs
+
 print-gap-requires : tie.Need-print-gap-requires Inv-loop μ-loop
 print-gap-requires c κs = search needs
+
+returns-3 : tie.Need-returns-3 Inv-loop μ-loop
+returns-3 c = search needs
 
 add-i : tie.Need-add-i Inv-loop μ-loop
 add-i c = search needs
@@ -38,8 +44,8 @@ loop-less c = omega arith
 loop-again : tie.Need-loop-again Inv-loop μ-loop
 loop-again c = search needs
 
-returns-2 : tie.Need-returns-2 Inv-loop μ-loop
-returns-2 c = search needs
+returns-4 : tie.Need-returns-4 Inv-loop μ-loop
+returns-4 c = search needs
 
 pub print-records-spec : {M : Type 1} → statement M
 print-records-spec =
@@ -52,8 +58,10 @@ print-records-spec =
     mul-print-word
     shared-slice-read-print-word
     print-word-requires
+    returns-2
     print-gap-requires
+    returns-3
     add-i
     loop-less
     loop-again
-    returns-2)
+    returns-4)
