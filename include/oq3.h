@@ -311,6 +311,9 @@ oq3_answer oq3_is_fatal(uint32_t error);
 
 /* ---- Texts and characters ----------------------------------------------------------------------------------------------------- */
 
+/* The profile for a caller with no wish of its own, as the archive has it: OQ3_DEFAULT_PROFILE of the header that it was made with. */
+uint32_t oq3_default_profile(void);
+
 /* The checks that the entries begin with, by themselves: 2 and 3; and before them 1 for the profile. With 0 also is 0. */
 oq3_answer oq3_check_text(const uint8_t *text, size_t text_len);
 oq3_answer oq3_check_cut(const uint8_t *text, size_t text_len, uint32_t profile);

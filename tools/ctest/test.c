@@ -187,6 +187,7 @@ static void refusals(void) {
     CHECK(is(oq3_is_ident(bad, 4), 3, 3));
     CHECK(is(oq3_unescape_char(bad, 4), 3, 3));
     CHECK(is(oq3_unescape_byte(bad, 4), 3, 3));
+    CHECK(oq3_default_profile() == OQ3_DEFAULT_PROFILE);
     CHECK(is(oq3_check_text(bad, 4), 3, 3));
     CHECK(is(oq3_check_cut(bad, 4, 1), 3, 3));
     CHECK(is(oq3_check_cut(bad, 4, 2), 1, 0));

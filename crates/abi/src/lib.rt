@@ -6,7 +6,7 @@ ghost use Prim.Native.Nat.{_%_};
 ghost use Rattle.unicode.specs.Utf8.{validUpTo};
 ghost use Rattle.unicode.specs.Text.{Decoded};
 ghost use Rattle.ucd.specs.Properties.{isXidStart, isXidContinue, isEmoji, isWhiteSpace};
-ghost use Rattle.text.specs.Answer.{Answered, checkText, checkCut};
+ghost use Rattle.text.specs.Answer.{Answered, defaultProfile, checkText, checkCut};
 ghost use Rattle.letters.specs.Chars.{isWhitespace, isIdStart, isIdContinue};
 ghost use Rattle.lexer.specs.Promises.{Listed, identified};
 ghost use Rattle.modes.specs.Modes.{testedMode, inDoubleQuotes, charactersShouldBeAscii, isUnicodeEscapeDisallowed, hasPrefix, isRaw};
@@ -27,6 +27,7 @@ use same::place_of;
 use text::Answer;
 use text::check_cut;
 use text::check_text;
+use text::default_profile;
 use unescape::unescape_literal;
 use unescape::unescape_part;
 use unicode::utf8::Char;
@@ -184,6 +185,13 @@ pub extern "C" fn oq3_is_fatal(error: u32) -> Answer
 }
 
 // ---- texts and characters
+#[no_mangle]
+pub extern "C" fn oq3_default_profile() -> u32
+    ensures { λ r. ⌜ r ≡ defaultProfile ⌝ }
+{
+    default_profile()
+}
+
 #[no_mangle]
 pub extern "C" fn oq3_check_text(text: &[u8]) -> Answer
     ensures { λ r. ⌜ Answered (checkText (now (text .entry))) (r .number) (r .also) ⌝ }

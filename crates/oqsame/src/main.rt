@@ -119,7 +119,7 @@ fn print_difference(old: &[u8], new: &[u8], c: Comparison) -> bool {
 }
 
 fn compare_texts(old: &[u8], old_name: &[u8], new: &[u8], new_name: &[u8]) -> bool {
-    let c = same::compare(old, new, text::DEFAULT_PROFILE);
+    let c = same::compare(old, new, text::default_profile());
     if c.verdict == same::SAME {
         return print(b"same\n");
     }
