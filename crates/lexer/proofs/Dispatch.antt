@@ -3,7 +3,7 @@
 use Prim.Native.Nat.{ℕ, _≤_, _<_}
 use native.Mathlib.Decide.{decLt}
 use native.Mathlib.Omega.{arith}
-use mathlib.Core.Path.{_≡_, refl, sym, _∙_}
+use mathlib.Core.Path.{_≡_, refl, ap, sym, _∙_}
 use mathlib.Core.Bool.{Bool, true, false, not, _||_, false≢true}
 use mathlib.Core.List.{List, [], _∷_}
 use lib.Dec.{T, eqb, leb, ltb}
@@ -104,13 +104,16 @@ abbrev pub None : List ℕ → ℕ → Type 0
 None [] c = Unit {0}
 None (k ∷ ks) c = None ks c × (c ≡ k → ⊥)
 
-abbrev has : List ℕ → ℕ → Bool
+abbrev pub has : List ℕ → ℕ → Bool
 has [] c = false
 has (k ∷ ks) c = eqb c k || has ks c
 
 no-key : (ks : List ℕ) (c : ℕ) → None ks c → has ks c ≡ false
 no-key [] c n = refl
 no-key (k ∷ ks) c n = rw (ne-eqb c k (n .1)) (no-key ks c (n .0))
+
+pub not-key : {c : ℕ} (m : ℕ) → None keys c → has keys m ≡ true → c ≡ m → ⊥
+not-key {c} m n h e = false≢true (sym (no-key keys c n) ∙ ap (has keys) e ∙ h)
 
 -- ---- below 0x80, by a test that antt computes at each number: what fails of all that is no key and not in a table fails of c
 fail-of : (b : Bool) → T (not b) → b ≡ false
@@ -123,7 +126,10 @@ module _ (c : ℕ) (n : None keys c) (l : c < 0x80) (taken : List Range) (o : Ou
       let e : T (has keys c || (inTable c taken || not (p c))) = each (λ k. has keys k || (inTable k taken || not (p k))) 0x80 t c l in
       fail-of (p c) (rw (no-key keys c n, ← outside c taken o) at e)
 
--- ---- the ranges of ASCII that the dispatch names, with the keys between them; c lies in none
+-- ---- white space beyond ASCII that is no key; and the ranges of ASCII that the dispatch names, with the keys between them, where c lies in none
+abbrev beyondSpace : List Range
+beyondSpace = 0x200E to 0x200F ∷ 0x2028 to 0x2029 ∷ []
+
 abbrev ranges : List Range
 ranges = 0x09 to 0x0D ∷ 0x28 to 0x5A ∷ 0x61 to 0x7A ∷ []
 
@@ -144,23 +150,23 @@ module _ {c : ℕ} where
   pub free-last : 0x7B ≤ c → c < 0x80 → Free c
   free-last a b = record { ascii = b; outside = omega arith }
 
-  -- beyond ASCII, by the white space there
+  -- beyond ASCII
   below : 0x80 ≤ c → c < 0x80 → ⊥
   below a b = omega arith
 
   over : {m : ℕ} → 0x80 ≤ m → m ≤ c → 0x80 ≤ c
   over a b = omega arith
 
-  low-of : c < 0x200E → Outside c (0x200E to 0x200F ∷ 0x2028 to 0x2029 ∷ [])
+  low-of : c < 0x200E → Outside c beyondSpace
   low-of a = omega arith
 
-  middle-of : 0x2010 ≤ c → c < 0x2028 → Outside c (0x200E to 0x200F ∷ 0x2028 to 0x2029 ∷ [])
+  middle-of : 0x2010 ≤ c → c < 0x2028 → Outside c beyondSpace
   middle-of a b = omega arith
 
-  high-of : 0x202A ≤ c → Outside c (0x200E to 0x200F ∷ 0x2028 to 0x2029 ∷ [])
+  high-of : 0x202A ≤ c → Outside c beyondSpace
   high-of a = omega arith
 
-  beyond-spaces : 0x80 ≤ c → (c ≡ 0x85 → ⊥) → Outside c (0x200E to 0x200F ∷ 0x2028 to 0x2029 ∷ []) → Outside c whitespace
+  beyond-spaces : 0x80 ≤ c → (c ≡ 0x85 → ⊥) → Outside c beyondSpace → Outside c whitespace
   unfolding whitespace
   beyond-spaces h n o = (λ a. omega arith, (λ a. omega arith, (λ a. omega arith, o)))
 
@@ -199,11 +205,10 @@ module _ (c : ℕ) (n : None keys c) where
       }
 
   -- beyond ASCII, all but white space
-  wide : 0x80 ≤ c → Outside c (0x200E to 0x200F ∷ 0x2028 to 0x2029 ∷ []) → Lettered c
+  wide : 0x80 ≤ c → Outside c beyondSpace → Lettered c
   unfolding whitespace
   wide h o =
-      let next : c ≡ 0x85 → ⊥ = n .0 .0 .0 .0 .0 .0 .0 .0 .0 .0 .0 .0 .0 .0 .0 .0 .0 .0 .0 .0 .0 .0 .0 .0 .0 .0 .0 .0 .1 in
-      record { no-space = sym (outside c whitespace (beyond-spaces h next o)); low = λ l. absurd (below h l) }
+      record { no-space = sym (outside c whitespace (beyond-spaces h (not-key 0x85 n refl) o)); low = λ l. absurd (below h l) }
 
   pub wide-low : 0x80 ≤ c → c < 0x200E → Lettered c
   wide-low a b = wide a (low-of b)

@@ -125,8 +125,9 @@ fn named(
     plain(at, kinds::UNKNOWN, next)
 }
 
-// The token that begins with c, in the order of the tests. A quoted text stands with the numbers: the compiler takes the range
-// alone, behind so many marks, for rare, and calls what cuts a number instead of placing it in line.
+// The token that begins with c, in the order of the tests; no two arms take the same character but white space beyond ASCII. A
+// quoted text stands with the numbers: the compiler would take the range of the digits alone for rare, and call what cuts a number
+// instead of placing it in line.
 fn advance(
     text: &[u8],
     at: usize,

@@ -5,7 +5,7 @@ use Rattle.ucd.specs.Properties.{asciiStart, testedIn}
 use Rattle.letters.specs.Chars.{whitespace}
 use Rattle.lexer.specs.Kinds.{marks, markIn}
 use Rattle.lexer.specs.Cut.{isDigit, advance}
-use Rattle.lexer.proofs.Dispatch.{upper, lower, digit, underscore, wide-low, wide-middle, wide-high, free-first, free-second, free-third, free-last, late-ascii, no-emoji, space, next-line, controls, directions, separators}
+use Rattle.lexer.proofs.Dispatch.{not-key, upper, lower, digit, underscore, wide-low, wide-middle, wide-high, free-first, free-second, free-third, free-last, late-ascii, no-emoji, space, next-line, controls, directions, separators}
 use Rattle.lexer.proofs.Advancing.{advancing, told, cut-key, cut-space, cut-number, cut-string, cut-unknown}
 use borrow.Author.Needs.{needs}
 use Rattle.lexer.proofs.advance.advance.Statement.{statement}
@@ -248,7 +248,7 @@ returns-29 c = search needs
 returns-30 : tie.Need-returns-30
 returns-30 c =
     ⊎-elim (λ w. cut-string _ _ _ _ (c .before .before .before .before .before .before .pre) (w .keys5) (c .literal .ensures .string (w .keys5)))
-    (λ w. cut-number _ _ _ _ (c .before .before .before .before .before .before .pre) (digit _ (w .0 .rest) (w .4 .left) (w .5 .taken)) (c .literal .ensures .number (w .0 .rest .0 .0 .0 .0 .0 .0 .0 .0 .0 .0 .0 .0 .0 .0 .0 .0 .0 .0 .0 .0 .0 .0 .0 .0 .0 .0 .1)))
+    (λ w. cut-number _ _ _ _ (c .before .before .before .before .before .before .pre) (digit _ (w .0 .rest) (w .4 .left) (w .5 .taken)) (c .literal .ensures .number (not-key 0x22 (w .0 .rest) refl)))
     (c .before .match .came)
 
 returns-31 : tie.Need-returns-31
