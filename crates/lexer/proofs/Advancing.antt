@@ -122,7 +122,7 @@ module _ (start more emoji : List ℕ) (profile : ℕ) {s : List ℕ} {at c next
 
 -- as it is told plainly
 pub told : {u : Letters} {profile : ℕ} {s : List ℕ} {at kind end kind′ suffixAt′ end′ : ℕ} → Plainly at kind end kind′ suffixAt′ end′ → Cuts u profile s at kind at end → Cuts u profile s at kind′ suffixAt′ end′
-told p q = rw (p .what, p .start, p .place) q
+told p q = rw (p .kind-is, p .suffix-is, p .end-is) q
 
 -- ---- literals behind their first character
 module _ (start more : ℕ → Bool) {s : List ℕ} {at kind suffixAt : ℕ} where

@@ -11,7 +11,7 @@ use Rattle.ucd.specs.Properties.{asciiStart, asciiContinue, asciiEmoji, testedI
 use Rattle.ucd.proofs.Rising.{start-is, continue-is, emoji-is}
 use Rattle.lexer.specs.Cut.{Letters}
 use Rattle.lexer.specs.Unicode.{unicode, lent}
-use Rattle.lexer.specs.Steps.{Stored}
+use Rattle.lexer.specs.Steps.{StoredTokens}
 
 spelled : _≡_ {A = Letters} (record {
   start = λ c. eqb c 0x5F || testedIn asciiStart (flat xidStart) c;
@@ -25,5 +25,5 @@ pub lent-is : lent (flat xidStart) (flat xidContinue) (flat emoji) ≡ unicode
 lent-is = spelled
 
 -- so what is stored over the constants is what is stored over Unicode's letters
-pub lent-stored : {profile number also : ℕ} {s list list′ : List ℕ} → Stored (lent (flat xidStart) (flat xidContinue) (flat emoji)) profile s list number also list′ → Stored unicode profile s list number also list′
-lent-stored {profile} {number} {also} {s} {list} {list′} r = subst (λ (u : Letters). Stored u profile s list number also list′) lent-is r
+pub lent-stored : (profile : ℕ) (s : List ℕ) {number also : ℕ} {list list′ : List ℕ} → StoredTokens (lent (flat xidStart) (flat xidContinue) (flat emoji)) profile s list number also list′ → StoredTokens unicode profile s list number also list′
+lent-stored profile s {number} {also} {list} {list′} r = subst (λ (u : Letters). StoredTokens u profile s list number also list′) lent-is r

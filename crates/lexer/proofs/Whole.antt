@@ -5,23 +5,24 @@ use native.Mathlib.Decide.{decLt}
 use native.Mathlib.Omega.{arith}
 use native.Mathlib.Numerals.{add-one, add-two}
 use mathlib.Core.Path.{_≡_, refl, ap, sym, _∙_}
-use mathlib.Core.Bool.{true, false}
 use mathlib.Core.List.{List, [], _∷_, _++_}
 use lib.ListN.{length, drop, set, getD, length-set, length-take, length-drop, drop-of-length-le}
 use lib.Seq.{sets, take-all, take-nil}
-use lib.Dec.{eqb, ltb}
-use borrow.Author.Tests.{lt-ltb, le-ltb, eq-eqb, ne-eqb}
+use lib.Dec.{ltb}
+use borrow.Author.Tests.{lt-ltb, le-ltb}
 use Rattle.lists.proofs.Bools.{by-test}
 use Rattle.lists.proofs.Cut.{cut-few}
 use Rattle.lists.proofs.Store.{stored-front}
 use Rattle.unicode.specs.Utf8.{next, chars}
 use Rattle.unicode.specs.Text.{byteLength, left}
 use Rattle.unicode.proofs.Text.{point-at, left-end, between, bytes-chars}
-use Rattle.text.specs.Answer.{Answered, done, roomTooSmall, longest, checkCut}
+use Rattle.text.specs.Answer.{Answered, done, longest, checkCut}
+use Rattle.text.specs.Steps.{Entered}
+use Rattle.text.proofs.Room as room
 use Rattle.text.proofs.Checks.{cut-accepted}
 use Rattle.lexer.specs.Cut.{Letters, Token, advanceToken, nextToken, tokens, flat, total}
 use Rattle.lexer.specs.Unicode.{unicode}
-use Rattle.lexer.specs.Steps.{Cuts, Advanced, Filled, Stored, runFrom}
+use Rattle.lexer.specs.Steps.{Cuts, Advanced, Filled, StoredTokens, runFrom}
 use Rattle.lexer.specs.Promises.{tokensOf, answerOf, listed, Listed, run, CutRun, front, TokenAt}
 use Rattle.lexer.proofs.Shapes.{tokens-nil, tokens-cons}
 
@@ -170,41 +171,29 @@ module _ {u : Letters} {profile : ℕ} {s : List ℕ} {at n : ℕ} (w : Counting
 
 -- ---- the answer of a text that passed the checks
 module _ {u : Letters} {profile : ℕ} {s list list′ : List ℕ} {number also : ℕ} where
-  stored : {at n : ℕ} → Filled u profile s 0 list at n list′ → length (tokens u profile (chars s)) ≤ length list / 3 → number ≡ done → also ≡ n → Stored u profile s list number also list′
+  stored : {at n : ℕ} → Filled u profile s 0 list at n list′ → length (tokens u profile (chars s)) ≤ length list / 3 → number ≡ done → also ≡ n → StoredTokens u profile s list number also list′
   stored w l k a =
       let T = tokens u profile (chars s) in
       let e : runFrom u profile s 0 (length list / 3) ≡ T = take-all (length list / 3) T l in
-      let n = length-flat T in
-      record {
-        answer = rw (le-ltb (length list / 3) (length T) l) (record { number-is = k; also-is = a ∙ w .many ∙ ap length e });
-        words = rw k (stored-front (flat T) list (w .words ∙ ap (λ (l : List Token). sets list 0 (flat l)) e) (omega (arith, n)));
-      }
+      room.stored-all (w .many ∙ ap length e) (omega (arith, w .many, ap length e)) (omega (arith, length-flat T)) (w .words ∙ ap (λ (l : List Token). sets list 0 (flat l)) e) k a
 
-  pub stored-all : {at n : ℕ} → Filled u profile s 0 list at n list′ → length s ≤ length list / 3 → number ≡ done → also ≡ n → Stored u profile s list number also list′
+  pub stored-all : {at n : ℕ} → Filled u profile s 0 list at n list′ → length s ≤ length list / 3 → number ≡ done → also ≡ n → StoredTokens u profile s list number also list′
   stored-all w l = stored w (omega (arith, few-tokens u profile s))
 
-  pub stored-counted : {at n m : ℕ} → Filled u profile s 0 list at n list′ → m ≡ length (tokens u profile (chars s)) → m ≤ length list / 3 → number ≡ done → also ≡ n → Stored u profile s list number also list′
+  pub stored-counted : {at n m : ℕ} → Filled u profile s 0 list at n list′ → m ≡ length (tokens u profile (chars s)) → m ≤ length list / 3 → number ≡ done → also ≡ n → StoredTokens u profile s list number also list′
   stored-counted w c l = stored w (omega arith)
 
-  pub stored-none : {n : ℕ} → n ≡ length (tokens u profile (chars s)) → length list / 3 < n → list′ ≡ list → number ≡ roomTooSmall → also ≡ n → Stored u profile s list number also list′
-  stored-none c l e k a =
-      record {
-        answer = rw (← c, lt-ltb (length list / 3) _ l) (record { number-is = k; also-is = a });
-        words = rw k e;
-      }
-
 -- ---- the whole
-pub listed-refused : {s list list′ : List ℕ} {profile number also : ℕ} → Answered (checkCut s profile) number also → (number ≡ done → ⊥) → list′ ≡ list → Listed s profile list number also list′
+listed-by : {s list list′ : List ℕ} {profile number also : ℕ} → Entered (checkCut s profile) (length list / 3) (length (tokensOf profile s)) (flat (tokensOf profile s)) list number also list′ → Listed s profile list number also list′
 unfolding answerOf listed
-listed-refused {s} {list} {list′} {profile} {number} {also} a n e =
-    let h : eqb (checkCut s profile .0) done ≡ false = ne-eqb _ _ (λ z. n (a .number-is ∙ z)) in
-    record { answer = rw h a; words = rw (h, h) e }
+listed-by e = record { answer = e .answer; words = e .memory }
 
-pub listed-done : {s list list′ : List ℕ} {profile n₀ a₀ number also : ℕ} → Answered (checkCut s profile) n₀ a₀ → n₀ ≡ done → Stored unicode profile s list number also list′ → Listed s profile list number also list′
-unfolding answerOf listed tokensOf
-listed-done {s} {list} {list′} {profile} c z r =
-    let h : eqb (checkCut s profile .0) done ≡ true = eq-eqb _ _ (sym (c .number-is) ∙ z) in
-    record { answer = rw h (r .answer); words = rw (h, ← r .answer .number-is) (r .words) }
+pub listed-refused : {s list list′ : List ℕ} {profile number also : ℕ} → Answered (checkCut s profile) number also → (number ≡ done → ⊥) → list′ ≡ list → Listed s profile list number also list′
+listed-refused a n e = listed-by (room.refused a n e)
+
+pub listed-done : {s list list′ : List ℕ} {profile n₀ a₀ number also : ℕ} → Answered (checkCut s profile) n₀ a₀ → n₀ ≡ done → StoredTokens unicode profile s list number also list′ → Listed s profile list number also list′
+unfolding tokensOf
+listed-done c z r = listed-by (room.passed c z r)
 
 pub cut-short : (s : List ℕ) (profile : ℕ) {n a : ℕ} → Answered (checkCut s profile) n a → n ≡ done → length s ≤ longest
 cut-short s profile c z = cut-accepted s profile (sym (c .number-is) ∙ z) .1 .short

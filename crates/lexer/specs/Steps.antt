@@ -7,8 +7,7 @@ use mathlib.Core.List.{List, _∷_}
 use lib.Dec.{eqb}
 use lib.ListN.{length, take, drop, getD}
 use lib.Seq.{sets}
-use Rattle.lists.specs.Over.{over}
-use Rattle.text.specs.Answer.{Answered, done, checkRoom}
+use Rattle.text.specs.Steps.{Stored}
 use Rattle.unicode.specs.Ranges.{inTable}
 use Rattle.unicode.specs.Steps.{Place}
 use Rattle.unicode.specs.Text.{left, skip}
@@ -81,9 +80,9 @@ pub record LiteralAt (start more : ℕ → Bool) (c : ℕ) (s : List ℕ) (at ki
 
 -- what is told of a token that is no literal, from `at` to `end`: its kind, where its suffix starts, and where it ends
 pub record Plainly (at kind end kind′ suffixAt′ end′ : ℕ) : Type 0 where
-  pub what : kind′ ≡ kind
-  pub start : suffixAt′ ≡ at
-  pub place : end′ ≡ end
+  pub kind-is : kind′ ≡ kind
+  pub suffix-is : suffixAt′ ≡ at
+  pub end-is : end′ ≡ end
 
 -- ---- a token at a place before the end: its kind, and the places where its suffix starts and where it ends
 pub record Cuts (u : Letters) (profile : ℕ) (s : List ℕ) (at kind suffixAt end : ℕ) : Type 0 where
@@ -109,6 +108,6 @@ pub record Filled (u : Letters) (profile : ℕ) (s : List ℕ) (from : ℕ) (lis
   pub words : list′ ≡ sets list 0 (flat (runFrom u profile s from (length list / 3)))
 
 -- the answer for a text that passed the checks, and the list
-pub record Stored (u : Letters) (profile : ℕ) (s list : List ℕ) (number also : ℕ) (list′ : List ℕ) : Type 0 where
-  pub answer : Answered (checkRoom (length list / 3) (length (tokensBy u profile s))) number also
-  pub words : list′ ≡ cond (eqb number done) (over (flat (tokensBy u profile s)) list) list
+abbrev pub StoredTokens : Letters → ℕ → List ℕ → List ℕ → ℕ → ℕ → List ℕ → Type 0
+StoredTokens u profile s list number also list′ =
+    Stored (length list / 3) (length (tokensBy u profile s)) (flat (tokensBy u profile s)) list number also list′

@@ -4,7 +4,7 @@ ghost use Prim.Native.Nat.{_+_, _≤_};
 ghost use lib.ListN.{length, set};
 ghost use Rattle.text.specs.Answer.{longest};
 ghost use Rattle.lexer.specs.Unicode.{lent, unicode};
-ghost use Rattle.lexer.specs.Steps.{Filled, Stored};
+ghost use Rattle.lexer.specs.Steps.{Filled, StoredTokens};
 ghost use Rattle.lexer.specs.Promises.{tokensBy, Listed, CutRun, TokenAt};
 pub use crate::advance::Piece;
 use crate::advance::advance_token;
@@ -129,7 +129,7 @@ fn store(
     emoji: &[u32],
 ) -> Answer
     requires { ⌜ length (now text) ≤ longest ⌝ }
-    ensures { λ r. ⌜ Stored (lent (now (start .entry)) (now (more .entry)) (now (emoji .entry))) profile (now (text .entry)) (now (list .entry)) (r .number) (r .also) (now (list .exit)) ⌝ }
+    ensures { λ r. ⌜ StoredTokens (lent (now (start .entry)) (now (more .entry)) (now (emoji .entry))) profile (now (text .entry)) (now (list .entry)) (r .number) (r .also) (now (list .exit)) ⌝ }
 {
     if list.len() / 3 < text.len() {
         let n = count(text, profile, start, more, emoji);
@@ -150,7 +150,7 @@ fn store(
 // Lends the tables, once for the whole text.
 fn lend(text: &[u8], profile: u32, list: &mut [u32]) -> Answer
     requires { ⌜ length (now text) ≤ longest ⌝ }
-    ensures { λ r. ⌜ Stored unicode profile (now (text .entry)) (now (list .entry)) (r .number) (r .also) (now (list .exit)) ⌝ }
+    ensures { λ r. ⌜ StoredTokens unicode profile (now (text .entry)) (now (list .entry)) (r .number) (r .also) (now (list .exit)) ⌝ }
 {
     store(
         text,

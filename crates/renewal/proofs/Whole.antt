@@ -34,7 +34,7 @@ room-enough u profile s key l = omega (arith, key-few-by (keyable u profile) s)
 
 module _ (cutter : List ℕ → List Token) {s key key′ : List ℕ} {n number also : ℕ} where
   stored : Walked cutter s true key n key′ → n ≤ length key → number ≡ done → also ≡ n → StoredKey cutter s key number also key′
-  stored w l k a = room.stored-all (omega (arith, w .size)) (omega (arith, w .size)) (w .key-is) k (omega (arith, w .size))
+  stored w l k a = room.stored-all (w .size) l (omega (arith, w .size)) (w .key-is) k a
 
   pub stored-all : Walked cutter s true key n key′ → length s ≤ length key / 11 → number ≡ done → also ≡ n → StoredKey cutter s key number also key′
   stored-all w l k a = stored w (omega (arith, w .few)) k a
@@ -42,7 +42,7 @@ module _ (cutter : List ℕ → List Token) {s key key′ : List ℕ} {n number 
   pub stored-none : Walked cutter s false key n key′ → length key′ < n → number ≡ roomTooSmall → also ≡ n → StoredKey cutter s key number also key′
   stored-none w l k a =
       let h : length key < n = rw (w .key-is) at l in
-      room.stored-none (omega (arith, h, w .size)) (w .key-is) k (omega (arith, w .size))
+      room.stored-none (w .size) h (w .key-is) k a
 
 -- sized first, and then written
 pub room-sized : {cutter : List ℕ → List Token} {s key key′ : List ℕ} {n : ℕ} → Walked cutter s false key n key′ → n ≤ length key′ → length (keyBy cutter s) ≤ length key′

@@ -12,16 +12,16 @@ use Rattle.lists.proofs.Store.{stored-front}
 use Rattle.text.specs.Answer.{Answered, done, roomTooSmall}
 use Rattle.text.specs.Steps.{Stored, Entered}
 
-module _ {room need : ℕ} {new list list′ : List ℕ} {number also : ℕ} where
+module _ {room need n : ℕ} {new list list′ : List ℕ} {number also : ℕ} (c : n ≡ need) where
   -- there is room for all, and all are stored from the front on
-  pub stored-all : need ≤ room → length new ≤ length list → list′ ≡ sets list 0 new → number ≡ done → also ≡ need → Stored room need new list number also list′
+  pub stored-all : n ≤ room → length new ≤ length list → list′ ≡ sets list 0 new → number ≡ done → also ≡ n → Stored room need new list number also list′
   stored-all h l e k a =
-      record { answer = rw (le-ltb room need h) (record { number-is = k; also-is = a }); memory = rw k (stored-front new list e l) }
+      record { answer = rw (← c, le-ltb room n h) (record { number-is = k; also-is = a }); memory = rw k (stored-front new list e l) }
 
   -- there is too little, and nothing is stored
-  pub stored-none : room < need → list′ ≡ list → number ≡ roomTooSmall → also ≡ need → Stored room need new list number also list′
+  pub stored-none : room < n → list′ ≡ list → number ≡ roomTooSmall → also ≡ n → Stored room need new list number also list′
   stored-none h e k a =
-      record { answer = rw (lt-ltb room need h) (record { number-is = k; also-is = a }); memory = rw k e }
+      record { answer = rw (← c, lt-ltb room n h) (record { number-is = k; also-is = a }); memory = rw k e }
 
 -- ---- with the checks before it
 module _ {check : ℕ × ℕ} {room need : ℕ} {new list list′ : List ℕ} {number also : ℕ} where

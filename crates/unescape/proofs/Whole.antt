@@ -234,12 +234,12 @@ module _ (mode : ℕ) (s : List ℕ) {write : Bool} {list list′ : List ℕ} {n
 -- ---- the answer of a body that passed the checks
 module _ {all : List Item} {list list′ : List ℕ} {n number also : ℕ} where
   stored : Walked all true list n list′ → n ≤ length list / 3 → number ≡ done → also ≡ n → StoredItems all list number also list′
-  stored w l k a = room.stored-all (omega (arith, w .count)) (omega (arith, length-flat all, w .count)) (w .words) k (omega (arith, w .count))
+  stored w l k a = room.stored-all (w .count) l (omega (arith, length-flat all, w .count)) (w .words) k a
 
   pub stored-short : Walked all false list n list′ → length list′ / 3 < n → number ≡ roomTooSmall → also ≡ n → StoredItems all list number also list′
   stored-short w l k a =
       let h : length list / 3 < n = rw (w .words) at l in
-      room.stored-none (omega (arith, h, w .count)) (w .words) k (omega (arith, w .count))
+      room.stored-none (w .count) h (w .words) k a
 
 module _ {all : List Item} {list list′ : List ℕ} {n number also : ℕ} where
   pub stored-twice : {m : ℕ} {list″ : List ℕ} → Walked all false list n list′ → n ≤ length list′ / 3 → Walked all true list′ m list″ → number ≡ done → also ≡ n → StoredItems all list number also list″

@@ -21,7 +21,7 @@ same-length c = search needs
 
 returns : tie.Need-returns
 unfolding xidStart xidContinue emoji
-returns c = lent-stored (c .before .before .store .ensures)
+returns c = lent-stored _ _ (c .before .before .store .ensures)
 
 pub lend-spec : {M : Type 1} → statement M
 lend-spec =

@@ -1,6 +1,7 @@
 use mathlib.Core.Path.{refl}
 use mathlib.Core.Logic.{inl, inr}
-use Rattle.lexer.proofs.Whole.{stored-all, stored-counted, stored-none}
+use Rattle.text.proofs.Room.{stored-none}
+use Rattle.lexer.proofs.Whole.{stored-all, stored-counted}
 use borrow.Author.Needs.{needs}
 use Rattle.lexer.proofs.list.store.Statement.{statement}
 use Rattle.lexer.proofs.list.store.Tie as tie
