@@ -196,7 +196,7 @@ unfolding tokensOf
 listed-done c z r = listed-by (room.passed c z r)
 
 pub cut-short : (s : List ℕ) (profile : ℕ) {n a : ℕ} → Answered (checkCut s profile) n a → n ≡ done → length s ≤ longest
-cut-short s profile c z = cut-accepted s profile (sym (c .number-is) ∙ z) .1 .short
+cut-short s profile c z = cut-accepted s profile (sym (c .number-is) ∙ z) .text .short
 
 -- ---- a run of one token
 -- the words of at most one token, before three noughts

@@ -50,7 +50,7 @@ pub exactly-when : (profile : ℕ) (s s′ : List ℕ) → checkCut s profile .0
     (keyOfText profile s ≡ keyOfText profile s′ → membersOf profile s ≡ membersOf profile s′) × (membersOf profile s ≡ membersOf profile s′ → keyOfText profile s ≡ keyOfText profile s′)
 unfolding keyOfText membersOf keyBy
 exactly-when profile s s′ h h′ =
-    exactly-when-by (profile-keyable profile) s s′ (cut-accepted s profile h .1 .short) (cut-accepted s′ profile h′ .1 .short)
+    exactly-when-by (profile-keyable profile) s s′ (cut-accepted s profile h .text .short) (cut-accepted s′ profile h′ .text .short)
 
 pub key-few : (profile : ℕ) (s : List ℕ) → length (keyOfText profile s) ≤ 11 * length s
 unfolding keyOfText membersOf keyBy

@@ -5,16 +5,16 @@ use native.Mathlib.Omega.{arith}
 use mathlib.Core.Path.{_≡_, refl, ap, sym, _∙_}
 use mathlib.Core.Bool.{false}
 use mathlib.Core.List.{List}
+use lib.Dec.{ltb}
 use lib.ListN.{length, take}
-use borrow.Author.Tests.{lt-ltb, le-ltb, eq-eqb}
+use borrow.Author.Tests.{le-ltb, eq-eqb}
+use Rattle.lists.proofs.Bools.{on-cond}
 use Rattle.unicode.specs.Utf8.{WellFormed}
 use Rattle.text.specs.Answer.{done, longest, checkCut}
-use Rattle.text.proofs.Checks.{cut-accepted, not-refused}
+use Rattle.text.proofs.Checks.{cut-accepted, cut-passes}
 use Rattle.locality.specs.Newline.{Run, withNewline}
 use Rattle.locality.proofs.Clause.{newline-shorter, newline-clause}
 use Rattle.tokens.specs.Members.{membersOf}
-use Rattle.lists.proofs.Bools.{on-cond}
-use lib.Dec.{ltb}
 use Rattle.renewal.specs.Key.{keyOf, keyOfText}
 use Rattle.renewal.specs.Promises.{answerOf, Keyed}
 use Rattle.renewal.proofs.Whole.{done-accepted, done-written}
@@ -27,16 +27,15 @@ same-key profile s s′ e = ap keyOf e
 -- with it a text that is well-formed and not too long is accepted, where the other was
 pub same-accepted : (profile : ℕ) (s s′ : List ℕ) → checkCut s profile .0 ≡ done → WellFormed s′ → length s′ ≤ longest → membersOf profile s′ ≡ membersOf profile s →
     (checkCut s′ profile .0 ≡ done) × (keyOfText profile s′ ≡ keyOfText profile s)
-unfolding checkCut
 same-accepted profile s s′ h f l e =
-    (rw (lt-ltb profile 2 (cut-accepted s profile h .0), not-refused s′ (record { short = l; good = f })), same-key profile s′ s e)
+    (ap (λ (r : ℕ × ℕ). r .0) (cut-passes s′ profile (record { known = cut-accepted s profile h .known; text = record { short = l; good = f } })), same-key profile s′ s e)
 
 -- ---- THE NEWLINE CLAUSE: of a text that is accepted, with one newline in place of any unbroken run of one or more uncounted tokens, the new text
 -- is accepted too, and its key is the same
 pub newline-key : (profile : ℕ) {s : List ℕ} {from to : ℕ} → checkCut s profile .0 ≡ done → Run profile s from to →
     (checkCut (withNewline s from to) profile .0 ≡ done) × (keyOfText profile (withNewline s from to) ≡ keyOfText profile s)
 newline-key profile {s} {from} {to} h r =
-    let a = cut-accepted s profile h .1 in
+    let a = cut-accepted s profile h .text in
     let c = newline-clause profile (a .good) r in
     same-accepted profile s (withNewline s from to) h (c .0) (omega (arith, newline-shorter profile r, a .short)) (c .1)
 

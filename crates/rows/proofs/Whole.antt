@@ -143,7 +143,7 @@ module _ {s : List ℕ} {profile number also : ℕ} (row : List Token) (j : Judg
 
   pub judged-passed : (length s ≤ longest) × (length (tokens unicode profile (chars s)) ≤ length row)
   unfolding tokensOf
-  judged-passed = (cut-accepted s profile (passes .0) .1 .short, passes .1)
+  judged-passed = (cut-accepted s profile (passes .0) .text .short, passes .1)
 
   answer-is : answerOf s profile (3 * length row) ≡ (done, need s profile)
   unfolding answerOf

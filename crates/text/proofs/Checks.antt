@@ -6,11 +6,11 @@ use Prim.Native.Nat.{ℕ, _≤_, _<_}
 use native.Mathlib.Omega.{arith}
 use lib.Dec.{ltb}
 use lib.ListN.{length}
-use borrow.Author.Tests.{lt-ltb, le-ltb, ltb-true, ltb-false}
+use borrow.Author.Tests.{lt-ltb, le-ltb, ltb-false}
 use Rattle.lists.proofs.Bools.{by-test}
 use Rattle.unicode.specs.Utf8.{validUpTo}
 use Rattle.unicode.proofs.Valid.{valid-within}
-use Rattle.text.specs.Answer.{Answered, done, tooLong, notUtf8, longest, checkText, checkCut, unknownSelector, Accepted}
+use Rattle.text.specs.Answer.{Answered, done, tooLong, notUtf8, longest, checkText, checkCut, unknownSelector, Accepted, CutAccepted}
 
 -- one outcome: two answers of one call are equal
 pub answered-unique : {is : ℕ × ℕ} {n a m b : ℕ} → Answered is n a → Answered is m b → (n ≡ m) × (a ≡ b)
@@ -56,10 +56,15 @@ module _ (s : List ℕ) (p : ℕ) {number also : ℕ} where
   unfolding checkCut
   cut-known h a = rw (lt-ltb p 2 h) a
 
--- what passes has a known profile and is accepted
-pub cut-accepted : (s : List ℕ) (p : ℕ) → checkCut s p .0 ≡ done → (p < 2) × Accepted s
+-- what is not refused has a known profile and an accepted text
+pub cut-accepted : (s : List ℕ) (p : ℕ) → checkCut s p .0 ≡ done → CutAccepted s p
 unfolding checkCut
 cut-accepted s p h =
     by-test (ltb p 2)
-    (λ e. (ltb-true p 2 e, accepted s (rw e at h)))
+    (λ e. record { known = e; text = accepted s (rw e at h) })
     (λ e. absurd (omega (arith, rw e at h)))
+
+-- and such a text is not refused
+pub cut-passes : (s : List ℕ) (p : ℕ) → CutAccepted s p → checkCut s p ≡ (done, 0)
+unfolding checkCut
+cut-passes s p a = rw (a .known, not-refused s (a .text))

@@ -1,7 +1,7 @@
 -- What comes back from an entry that can refuse: a number, and what is also returned with it; and the checks that it begins with.
 -- Assumes nothing.
 use mathlib.Core.Path.{_≡_}
-use mathlib.Core.Bool.{Bool, cond}
+use mathlib.Core.Bool.{Bool, true, cond}
 use mathlib.Core.List.{List}
 use Prim.Native.Nat.{ℕ, _≤_}
 use lib.Dec.{ltb, eqb}
@@ -66,7 +66,12 @@ checkCut s p = checkProfile p andThen checkText s
 abbrev pub checkRoom : ℕ → ℕ → ℕ × ℕ
 checkRoom room need = cond (ltb room need) (roomTooSmall, need) (done, need)
 
--- what passes: a text that is short enough and well-formed
+-- ---- what passes `checkText`: a text that is short enough and well-formed
 pub record Accepted (s : List ℕ) : Type 0 where
   pub short : length s ≤ longest
   pub good : WellFormed s
+
+-- and `checkCut`: such a text, under a known profile
+pub record CutAccepted (s : List ℕ) (p : ℕ) : Type 0 where
+  pub known : knownProfile p ≡ true
+  pub text : Accepted s
