@@ -1,6 +1,7 @@
 // The tasks on tokens and items: lists of words, three for each, and rows of records.
 ghost use Prim.Native.Nat.{_≤_, _*_, _+_};
 ghost use lib.ListN.{length};
+ghost use Rattle.cutters.specs.Records.{recordWords};
 use crate::output::print_answer;
 use crate::output::print_word;
 use crate::output::print_words;
@@ -11,6 +12,8 @@ use crate::tasks::has_room;
 use crate::tasks::lent;
 use crate::tasks::shown;
 use crate::words::Asked;
+use cutters::RECORD;
+use cutters::RECORD;
 use rows::Row;
 use rows::Token;
 use rows::rows_of;
@@ -40,13 +43,13 @@ fn wide(word: u32) -> usize
 
 // Where the record `index` of a list of tokens starts in the text.
 fn start_of(list: &[u32], index: usize) -> usize
-    requires { ⌜ (3 * index ≤ length (now list)) × (index ≤ 4294967295) ⌝ }
+    requires { ⌜ (recordWords * index ≤ length (now list)) × (index ≤ 4294967295) ⌝ }
     ensures { λ r. ⌜ r ≤ index * 4294967295 ⌝ }
 {
     let mut start = 0;
     let mut i = 0;
     while i < index {
-        start += wide(list[3 * i + 1]);
+        start += wide(list[RECORD * i + 1]);
         i += 1;
     }
     start
@@ -95,13 +98,13 @@ fn token_body(list: &[u32], cut: Answer, index: usize) -> Part
     if cut.also <= index as u64 {
         return NO_PART;
     }
-    if list.len() / 3 <= index {
+    if list.len() / RECORD <= index {
         return NO_PART;
     }
     body_at(
-        list[3 * index],
+        list[RECORD * index],
         start_of(list, index),
-        wide(list[3 * index + 2]),
+        wide(list[RECORD * index + 2]),
     )
 }
 

@@ -3,15 +3,15 @@
 use Prim.Native.Nat.{ℕ, suc, _+_, _-_, _*_, _/_, _≤_, _<_, max}
 use native.Mathlib.Decide.{decLt}
 use native.Mathlib.Omega.{arith}
-use native.Mathlib.Numerals.{add-one, add-two}
 use mathlib.Core.Path.{_≡_, refl, ap, sym, _∙_}
 use mathlib.Core.List.{List, [], _∷_, _++_}
-use lib.ListN.{length, drop, set, getD, length-set, length-take, length-drop, drop-of-length-le}
-use lib.Seq.{sets, take-all, take-nil}
+use lib.ListN.{length, drop, getD, length-take, length-drop, drop-of-length-le}
+use lib.Seq.{sets, length-sets, take-all, take-nil}
 use lib.Dec.{ltb}
 use borrow.Author.Tests.{lt-ltb, le-ltb}
 use Rattle.lists.proofs.Bools.{by-test}
 use Rattle.lists.proofs.Cut.{cut-few}
+use Rattle.lists.proofs.Put.{sets-append}
 use Rattle.lists.proofs.Store.{stored-front}
 use Rattle.unicode.specs.Utf8.{next, chars}
 use Rattle.unicode.specs.Text.{byteLength, left}
@@ -20,17 +20,13 @@ use Rattle.text.specs.Answer.{Answered, done, longest, checkCut}
 use Rattle.text.specs.Steps.{Entered}
 use Rattle.text.proofs.Room as room
 use Rattle.text.proofs.Checks.{cut-accepted}
-use Rattle.lexer.specs.Cut.{Letters, Token, advanceToken, nextToken, tokens, flat, total}
+use Rattle.cutters.specs.Records.{Token, total, recordWords, wordsOf, flatFrom}
+use Rattle.cutters.proofs.Records.{length-words, length-flat}
+use Rattle.lexer.specs.Cut.{Letters, advanceToken, nextToken, tokens}
 use Rattle.lexer.specs.Unicode.{unicode}
 use Rattle.lexer.specs.Steps.{Cuts, Advanced, Filled, StoredTokens, runFrom}
 use Rattle.lexer.specs.Promises.{tokensOf, answerOf, listed, Listed, run, CutRun, front, TokenAt}
 use Rattle.lexer.proofs.Shapes.{tokens-nil, tokens-cons}
-
--- three words for each token
-pub length-flat : (l : List Token) → length (flat l) ≡ 3 * length l
-unfolding flat
-length-flat [] = refl
-length-flat (t ∷ ts) = omega (arith, length-flat ts)
 
 module _ (u : Letters) (profile : ℕ) where
   -- ---- no more records than bytes
@@ -60,26 +56,26 @@ module _ (u : Letters) (profile : ℕ) where
 
 -- ---- a run of tokens: to go on from here comes to the same
 pub record Filling (u : Letters) (profile : ℕ) (s : List ℕ) (from : ℕ) (list₀ : List ℕ) (room at n : ℕ) (list : List ℕ) : Type 0 where
-  pub full : room ≡ length list₀ / 3
+  pub full : room ≡ length list₀ / recordWords
   pub low : n ≤ room
   pub long : length list ≡ length list₀
   pub count : n + length (runFrom u profile s at (room - n)) ≡ length (runFrom u profile s from room)
   pub place : at + total (runFrom u profile s at (room - n)) ≡ from + total (runFrom u profile s from room)
   pub rest : drop (room - n) (tokens u profile (left s at)) ≡ drop room (tokens u profile (left s from))
-  pub same : sets list (3 * n) (flat (runFrom u profile s at (room - n))) ≡ sets list₀ 0 (flat (runFrom u profile s from room))
+  pub same : sets list (recordWords * n) (flatFrom s at (runFrom u profile s at (room - n))) ≡ sets list₀ 0 (flatFrom s from (runFrom u profile s from room))
 
-pub filling-none : (u : Letters) (profile : ℕ) (s : List ℕ) (from : ℕ) (list : List ℕ) {room : ℕ} → room ≡ length list / 3 → Filling u profile s from list room from 0 list
+pub filling-none : (u : Letters) (profile : ℕ) (s : List ℕ) (from : ℕ) (list : List ℕ) {room : ℕ} → room ≡ length list / recordWords → Filling u profile s from list room from 0 list
 filling-none u profile s from list {room} r =
     let z : room - 0 ≡ room = omega arith in
     record { full = r; low = omega arith; long = refl; count = rw z (omega arith); place = rw z; rest = rw z; same = rw z }
 
 module _ {u : Letters} {profile : ℕ} {s list₀ list : List ℕ} {from room at n : ℕ} (w : Filling u profile s from list₀ room at n list) where
-  pub fill-three : {k : ℕ} → n < room → k ≡ 3 * n → k + 3 ≤ length list
-  fill-three h e = omega (arith, w .full, w .long)
+  pub fill-room : {k : ℕ} → n < room → k ≡ recordWords * n → k + recordWords ≤ length list
+  fill-room h e = omega (arith, w .full, w .long)
 
   module _ {kind suffixAt end n′ k : ℕ} {list′ : List ℕ} (l : n < room) (h : at < length s) (a : Advanced u profile s at kind suffixAt end) where
-    pub fill-on : k ≡ 3 * n → list′ ≡ set (set (set list k kind) (k + 1) (end - at)) (k + 2) (suffixAt - at) → n′ ≡ n + 1 → Filling u profile s from list₀ room end n′ list′
-    unfolding flat
+    pub fill-on : k ≡ recordWords * n → list′ ≡ sets list k (wordsOf s at (record { kind = kind; len = end - at; suffix = suffixAt - at })) → n′ ≡ n + 1 → Filling u profile s from list₀ room end n′ list′
+    unfolding flatFrom
     fill-on v e f =
         let cuts = a .before-end h in
         let ts = tokens u profile (left s end) in
@@ -87,10 +83,14 @@ module _ {u : Letters} {profile : ℕ} {s list₀ list : List ℕ} {from room at
         let view : tokens u profile (left s at) ≡ t ∷ ts = tokens-at u profile h cuts in
         let less : room - n ≡ suc (room - n′) = omega arith in
         let front : runFrom u profile s at (room - n) ≡ t ∷ runFrom u profile s end (room - n′) = rw (less, view) in
-        let m : 3 * n′ ≡ suc (suc (suc k)) = omega arith in
+        let W = wordsOf s at t in
+        let m : recordWords * n′ ≡ k + length W = omega (arith, length-words s at t) in
+        let there : at + t .len ≡ end = omega (arith, cuts .some) in
+        let rest = runFrom u profile s end (room - n′) in
         let far : drop (room - n) (tokens u profile (left s at)) ≡ drop (room - n′) ts = rw (less, view) in
-        let g : sets list k (flat (runFrom u profile s at (room - n))) ≡ sets list₀ 0 (flat (runFrom u profile s from room)) = rw v (w .same) in
-        let l : length list′ ≡ length list = ap length e ∙ simp length-set in
+        let g : sets list k (flatFrom s at (runFrom u profile s at (room - n))) ≡ sets list₀ 0 (flatFrom s from (runFrom u profile s from room)) = rw v (w .same) in
+        let l : length list′ ≡ length list = ap length e ∙ length-sets list k W in
+        let f : flatFrom s at (runFrom u profile s at (room - n)) ≡ W ++ flatFrom s end rest = ap (flatFrom s at) front ∙ ap (λ (i : ℕ). W ++ flatFrom s i rest) there in
         record {
           full = w .full;
           low = omega arith;
@@ -98,19 +98,19 @@ module _ {u : Letters} {profile : ℕ} {s list₀ list : List ℕ} {from room at
           count = omega (arith, w .count, ap length front);
           place = omega (arith, w .place, ap total front, cuts .some);
           rest = sym far ∙ w .rest;
-          same = rw (m, e, add-one, add-two) (ap (λ (l : List Token). sets list k (flat l)) (sym front) ∙ g);
+          same = rw (m, e) (sets-append W (flatFrom s end rest) list k ∙ ap (sets list k) (sym f) ∙ g);
         }
 
   -- where nothing is left to cut, all is done
   fill-done : {count : ℕ} → runFrom u profile s at (room - n) ≡ [] → drop (room - n) (tokens u profile (left s at)) ≡ tokens u profile (left s at) → count ≡ n → Filled u profile s from list₀ at count list
-  unfolding flat
+  unfolding flatFrom
   fill-done {count} z k e =
       let r = w .full in
       record {
         many = rw (← r) (omega (arith, w .count, ap length z));
         reached = rw (← r) (omega (arith, w .place, ap total z));
         rest = rw (← r) (sym k ∙ w .rest);
-        words = rw (← r) (ap (λ (l : List Token). sets list (3 * n) (flat l)) (sym z) ∙ w .same);
+        words = rw (← r) (ap (λ (l : List Token). sets list (recordWords * n) (flatFrom s at l)) (sym z) ∙ w .same);
       }
 
   pub fill-full : {count : ℕ} → room ≤ n → count ≡ n → Filled u profile s from list₀ at count list
@@ -124,7 +124,7 @@ module _ {u : Letters} {profile : ℕ} {s list₀ list : List ℕ} {from room at
 -- ---- the same for every length of text
 module _ {u : Letters} {profile : ℕ} {s list list′ : List ℕ} {from at count : ℕ} where
   pub run-none : longest < length s → at ≡ from → count ≡ 0 → list′ ≡ list → CutRun u profile s from list at count list′
-  unfolding run flat
+  unfolding run flatFrom
   run-none h a c e =
       let t = lt-ltb longest (length s) h in
       record { reached = rw t (omega arith); many = rw t c; words = rw t e }
@@ -133,13 +133,13 @@ module _ {u : Letters} {profile : ℕ} {s list list′ : List ℕ} {from at coun
   unfolding run
   run-some h f a c =
       let t = le-ltb longest (length s) h in
-      let room = length list / 3 in
-      let n = length-flat (runFrom u profile s from room) in
+      let room = length list / recordWords in
+      let n = length-flat s from (runFrom u profile s from room) in
       let few = length-take room (tokens u profile (left s from)) in
       record {
         reached = rw t (a ∙ f .reached);
         many = rw t (c ∙ f .many);
-        words = rw t (stored-front (flat (runFrom u profile s from room)) list (f .words) (omega (arith, n, few)));
+        words = rw t (stored-front (flatFrom s from (runFrom u profile s from room)) list (f .words) (omega (arith, n, few)));
       }
 
 -- ---- the count, by runs
@@ -157,34 +157,34 @@ module _ {u : Letters} {profile : ℕ} {s : List ℕ} {at n : ℕ} (w : Counting
 
   module _ {list list′ : List ℕ} {at′ k : ℕ} (f : Filled u profile s at list at′ k list′) where
     pub count-add : n + k ≤ length s
-    count-add = omega (arith, w .sum, f .many, length-take (length list / 3) (tokens u profile (left s at)), few-tokens u profile s)
+    count-add = omega (arith, w .sum, f .many, length-take (length list / recordWords) (tokens u profile (left s at)), few-tokens u profile s)
 
     pub count-on : {n′ : ℕ} → n′ ≡ n + k → Counting u profile s at′ n′
     count-on e =
         let T = tokens u profile (left s at) in
-        record { sum = omega (arith, w .sum, f .many, ap length (f .rest), length-take (length list / 3) T, length-drop (length list / 3) T) }
+        record { sum = omega (arith, w .sum, f .many, ap length (f .rest), length-take (length list / recordWords) T, length-drop (length list / recordWords) T) }
 
-    pub count-less : length list ≡ 192 → at < length s → length (tokens u profile (left s at′)) < length (tokens u profile (left s at))
+    pub count-less : length list ≡ 64 * recordWords → at < length s → length (tokens u profile (left s at′)) < length (tokens u profile (left s at))
     count-less r h =
         let T = tokens u profile (left s at) in
-        omega (arith, ap length (f .rest), length-drop (length list / 3) T, tokens-some u profile s at h)
+        omega (arith, ap length (f .rest), length-drop (length list / recordWords) T, tokens-some u profile s at h)
 
 -- ---- the answer of a text that passed the checks
 module _ {u : Letters} {profile : ℕ} {s list list′ : List ℕ} {number also : ℕ} where
-  stored : {at n : ℕ} → Filled u profile s 0 list at n list′ → length (tokens u profile (chars s)) ≤ length list / 3 → number ≡ done → also ≡ n → StoredTokens u profile s list number also list′
+  stored : {at n : ℕ} → Filled u profile s 0 list at n list′ → length (tokens u profile (chars s)) ≤ length list / recordWords → number ≡ done → also ≡ n → StoredTokens u profile s list number also list′
   stored w l k a =
       let T = tokens u profile (chars s) in
-      let e : runFrom u profile s 0 (length list / 3) ≡ T = take-all (length list / 3) T l in
-      room.stored-all (w .many ∙ ap length e) (omega (arith, w .many, ap length e)) (omega (arith, length-flat T)) (w .words ∙ ap (λ (l : List Token). sets list 0 (flat l)) e) k a
+      let e : runFrom u profile s 0 (length list / recordWords) ≡ T = take-all (length list / recordWords) T l in
+      room.stored-all (w .many ∙ ap length e) (omega (arith, w .many, ap length e)) (omega (arith, length-flat s 0 T)) (w .words ∙ ap (λ (l : List Token). sets list 0 (flatFrom s 0 l)) e) k a
 
-  pub stored-all : {at n : ℕ} → Filled u profile s 0 list at n list′ → length s ≤ length list / 3 → number ≡ done → also ≡ n → StoredTokens u profile s list number also list′
+  pub stored-all : {at n : ℕ} → Filled u profile s 0 list at n list′ → length s ≤ length list / recordWords → number ≡ done → also ≡ n → StoredTokens u profile s list number also list′
   stored-all w l = stored w (omega (arith, few-tokens u profile s))
 
-  pub stored-counted : {at n m : ℕ} → Filled u profile s 0 list at n list′ → m ≡ length (tokens u profile (chars s)) → m ≤ length list / 3 → number ≡ done → also ≡ n → StoredTokens u profile s list number also list′
+  pub stored-counted : {at n m : ℕ} → Filled u profile s 0 list at n list′ → m ≡ length (tokens u profile (chars s)) → m ≤ length list / recordWords → number ≡ done → also ≡ n → StoredTokens u profile s list number also list′
   stored-counted w c l = stored w (omega arith)
 
 -- ---- the whole
-listed-by : {s list list′ : List ℕ} {profile number also : ℕ} → Entered (checkCut s profile) (length list / 3) (length (tokensOf profile s)) (flat (tokensOf profile s)) list number also list′ → Listed s profile list number also list′
+listed-by : {s list list′ : List ℕ} {profile number also : ℕ} → Entered (checkCut s profile) (length list / recordWords) (length (tokensOf profile s)) (flatFrom s 0 (tokensOf profile s)) list number also list′ → Listed s profile list number also list′
 unfolding answerOf listed
 listed-by e = record { answer = e .answer; words = e .memory }
 
@@ -199,12 +199,15 @@ pub cut-short : (s : List ℕ) (profile : ℕ) {n a : ℕ} → Answered (checkCu
 cut-short s profile c z = cut-accepted s profile (sym (c .number-is) ∙ z) .text .short
 
 -- ---- a run of one token
--- the words of at most one token, before three noughts
-one-words : (l : List Token) → length l ≤ 1 → {list : List ℕ} → list ≡ flat l ++ drop (length (flat l)) (0 ∷ 0 ∷ 0 ∷ []) → (getD list 0 0 ≡ front l .kind) × (getD list 2 0 ≡ front l .suffix) × (total l ≡ front l .len)
-unfolding flat front
-one-words [] h e = (ap (λ (l : List ℕ). getD l 0 0) e, ap (λ (l : List ℕ). getD l 2 0) e, refl)
-one-words (t ∷ []) h e = (ap (λ (l : List ℕ). getD l 0 0) e, ap (λ (l : List ℕ). getD l 2 0) e, omega arith)
-one-words (t ∷ t′ ∷ ts) h e = absurd (omega arith)
+-- a record of noughts, and the words of at most one token before it
+abbrev none : List ℕ
+none = 0 ∷ 0 ∷ 0 ∷ []
+
+one-words : (s : List ℕ) (at : ℕ) (l : List Token) → length l ≤ 1 → {list : List ℕ} → list ≡ flatFrom s at l ++ drop (length (flatFrom s at l)) none → (getD list 0 0 ≡ front l .kind) × (getD list 2 0 ≡ front l .suffix) × (total l ≡ front l .len)
+unfolding flatFrom front
+one-words s at [] h e = (ap (λ (l : List ℕ). getD l 0 0) e, ap (λ (l : List ℕ). getD l 2 0) e, refl)
+one-words s at (t ∷ []) h e = (ap (λ (l : List ℕ). getD l 0 0) e, ap (λ (l : List ℕ). getD l 2 0) e, omega arith)
+one-words s at (t ∷ t′ ∷ ts) h e = absurd (omega arith)
 
 module _ (u : Letters) (profile : ℕ) (s : List ℕ) (at : ℕ) where
   abbrev one : List Token
@@ -226,13 +229,13 @@ module _ (u : Letters) (profile : ℕ) (s : List ℕ) (at : ℕ) where
         | no n ↦ rw (t, left-end s at (omega arith), tokens-nil u profile) (omega arith, omega arith)
       ])
 
-module _ {u : Letters} {profile : ℕ} {s list′ : List ℕ} {at end count : ℕ} (r : CutRun u profile s at (0 ∷ 0 ∷ 0 ∷ []) end count list′) where
+module _ {u : Letters} {profile : ℕ} {s list′ : List ℕ} {at end count : ℕ} (r : CutRun u profile s at none end count list′) where
   pub one-suffix : at + getD list′ 2 0 ≤ max at (length s)
-  one-suffix = omega (arith, one-within u profile s at .0, one-words (one u profile s at) (one-few u profile s at) (r .words) .1)
+  one-suffix = omega (arith, one-within u profile s at .0, one-words s at (one u profile s at) (one-few u profile s at) (r .words) .1)
 
   pub one-token : {kind suffixAt end′ : ℕ} → kind ≡ getD list′ 0 0 → suffixAt ≡ at + getD list′ 2 0 → end′ ≡ end → TokenAt u profile s at kind suffixAt end′
   one-token k m e =
-      let w = one-words (one u profile s at) (one-few u profile s at) (r .words) in
+      let w = one-words s at (one u profile s at) (one-few u profile s at) (r .words) in
       record { kind-is = k ∙ w .0; suffix-is = m ∙ ap (λ (n : ℕ). at + n) (w .1); end-is = e ∙ r .reached ∙ ap (λ (n : ℕ). at + n) (w .2) }
 
 -- a place of the token is at or behind its start, and within the text

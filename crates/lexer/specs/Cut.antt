@@ -2,7 +2,7 @@
 -- Assumes nothing.
 use mathlib.Core.Bool.{Bool, true, false, not, cond, _&&_, _||_}
 use mathlib.Core.List.{List, [], _∷_, tail}
-use Prim.Native.Nat.{ℕ, _+_, suc, _-_}
+use Prim.Native.Nat.{ℕ, suc, _-_}
 use lib.Dec.{eqb, leb}
 use lib.ListN.{length, drop}
 use Rattle.lists.specs.All.{all}
@@ -10,6 +10,7 @@ use Rattle.lists.specs.Cut.{cut}
 use Rattle.lists.specs.Eat.{eat}
 use Rattle.unicode.specs.Ranges.{_to_, inRange}
 use Rattle.unicode.specs.Text.{byteLength, skip}
+use Rattle.cutters.specs.Records.{Token}
 use Rattle.letters.specs.Chars.{isWhitespace}
 use Rattle.lexer.specs.Kinds.{eof, lineComment, blockComment, unclosedComment, whitespaceKind, ident, hardwareIdent, invalidIdent, pragma, annotation, atSign, dollar, slashMark, unknown, marks, markIn, int, float, str, bitStr}
 
@@ -193,12 +194,6 @@ plain c t r = record { kind = r .0; fromSuffix = c ∷ t; rest = r .1 }
 literal : ℕ → List ℕ → List ℕ → Piece
 literal k m r = record { kind = k; fromSuffix = m; rest = r }
 
--- a token record: kind, length, suffix start
-pub record Token : Type 0 where
-  pub kind : ℕ
-  pub len : ℕ
-  pub suffix : ℕ
-
 -- ---- names, over the tests that each asks
 abbrev pub wideEmoji : (ℕ → Bool) → ℕ → Bool
 wideEmoji emoji c = leb 0x80 c && emoji c
@@ -269,13 +264,3 @@ module _ (u : Letters) where
 
   unfoldable pub tokens : ℕ → List ℕ → List Token
   tokens profile = cut (nextToken profile)
-
--- three words for each token
-unfoldable pub flat : List Token → List ℕ
-flat [] = []
-flat (t ∷ ts) = t .kind ∷ t .len ∷ t .suffix ∷ flat ts
-
--- the lengths of tokens, added up
-abbrev pub total : List Token → ℕ
-total [] = 0
-total (t ∷ ts) = t .len + total ts

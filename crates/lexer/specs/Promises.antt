@@ -12,7 +12,8 @@ use Rattle.unicode.specs.Text.{left}
 use Rattle.text.specs.Answer.{Answered, done, longest, checkText, checkCut, checkRoom, _andThen_}
 use Rattle.letters.specs.Chars.{isIdent}
 use Rattle.lexer.specs.Kinds.{eof}
-use Rattle.lexer.specs.Cut.{Letters, Token, tokens, flat, total}
+use Rattle.cutters.specs.Records.{Token, total, recordWords, flatFrom}
+use Rattle.lexer.specs.Cut.{Letters, tokens}
 use Rattle.lexer.specs.Unicode.{unicode}
 
 -- the tokens of a text, over any letters, and over Unicode's
@@ -22,14 +23,14 @@ tokensBy u profile s = tokens u profile (chars s)
 unfoldable pub tokensOf : ℕ → List ℕ → List Token
 tokensOf profile s = tokensBy unicode profile s
 
--- the number and what is also returned, for a list of so many words: three words for each token
+-- the number and what is also returned, for a list of so many words
 unfoldable pub answerOf : List ℕ → ℕ → ℕ → ℕ × ℕ
-answerOf s profile words = checkCut s profile andThen checkRoom (words / 3) (length (tokensOf profile s))
+answerOf s profile words = checkCut s profile andThen checkRoom (words / recordWords) (length (tokensOf profile s))
 
 -- the words of the tokens, and behind them what stood there; a refusal changes nothing
 unfoldable pub listed : List ℕ → ℕ → List ℕ → List ℕ
 listed s profile list =
-    cond (eqb (answerOf s profile (length list) .0) done) (over (flat (tokensOf profile s)) list) list
+    cond (eqb (answerOf s profile (length list) .0) done) (over (flatFrom s 0 (tokensOf profile s)) list) list
 
 pub record Listed (s : List ℕ) (profile : ℕ) (list : List ℕ) (number also : ℕ) (list′ : List ℕ) : Type 0 where
   pub answer : Answered (answerOf s profile (length list)) number also
@@ -39,12 +40,11 @@ pub record Listed (s : List ℕ) (profile : ℕ) (list : List ℕ) (number also 
 unfoldable pub run : Letters → ℕ → List ℕ → ℕ → ℕ → List Token
 run u profile s from room = cond (ltb longest (length s)) [] (take room (tokens u profile (left s from)))
 
--- what `cut_run` answers and leaves, three words for each token: the place behind them, how many they are; their words, and behind them what
--- stood there
+-- what `cut_run` answers and leaves: the place behind them, how many they are; their words, and behind them what stood there
 pub record CutRun (u : Letters) (profile : ℕ) (s : List ℕ) (from : ℕ) (list : List ℕ) (at count : ℕ) (list′ : List ℕ) : Type 0 where
-  pub reached : at ≡ from + total (run u profile s from (length list / 3))
-  pub many : count ≡ length (run u profile s from (length list / 3))
-  pub words : list′ ≡ over (flat (run u profile s from (length list / 3))) list
+  pub reached : at ≡ from + total (run u profile s from (length list / recordWords))
+  pub many : count ≡ length (run u profile s from (length list / recordWords))
+  pub words : list′ ≡ over (flatFrom s from (run u profile s from (length list / recordWords))) list
 
 -- the first of some tokens; of none, the end of the text, of no length
 unfoldable pub front : List Token → Token

@@ -14,7 +14,8 @@ use Rattle.unicode.specs.Text.{left, skip}
 use Rattle.ucd.specs.Properties.{asciiStart}
 use Rattle.letters.specs.Chars.{isWhitespace}
 use Rattle.lexer.specs.Kinds.{eof}
-use Rattle.lexer.specs.Cut.{Letters, Token, agree, isBit, number, identifier, numberSuffix, quoted, quoteKind, advanceToken, tokens, flat, total}
+use Rattle.cutters.specs.Records.{Token, total, recordWords, flatFrom}
+use Rattle.lexer.specs.Cut.{Letters, agree, isBit, number, identifier, numberSuffix, quoted, quoteKind, advanceToken, tokens}
 use Rattle.lexer.specs.Promises.{tokensBy}
 
 -- a kind or a flag, and a place, by a definition that gives it and what is left
@@ -102,12 +103,12 @@ runFrom u profile s from room = take room (tokens u profile (left s from))
 
 -- how many they are, where they end and what is left there, and the list with their words
 pub record Filled (u : Letters) (profile : ℕ) (s : List ℕ) (from : ℕ) (list : List ℕ) (at count : ℕ) (list′ : List ℕ) : Type 0 where
-  pub many : count ≡ length (runFrom u profile s from (length list / 3))
-  pub reached : at ≡ from + total (runFrom u profile s from (length list / 3))
-  pub rest : tokens u profile (left s at) ≡ drop (length list / 3) (tokens u profile (left s from))
-  pub words : list′ ≡ sets list 0 (flat (runFrom u profile s from (length list / 3)))
+  pub many : count ≡ length (runFrom u profile s from (length list / recordWords))
+  pub reached : at ≡ from + total (runFrom u profile s from (length list / recordWords))
+  pub rest : tokens u profile (left s at) ≡ drop (length list / recordWords) (tokens u profile (left s from))
+  pub words : list′ ≡ sets list 0 (flatFrom s from (runFrom u profile s from (length list / recordWords)))
 
 -- the answer for a text that passed the checks, and the list
 abbrev pub StoredTokens : Letters → ℕ → List ℕ → List ℕ → ℕ → ℕ → List ℕ → Type 0
 StoredTokens u profile s list number also list′ =
-    Stored (length list / 3) (length (tokensBy u profile s)) (flat (tokensBy u profile s)) list number also list′
+    Stored (length list / recordWords) (length (tokensBy u profile s)) (flatFrom s 0 (tokensBy u profile s)) list number also list′

@@ -1,16 +1,23 @@
-// The list of tokens of a whole text, or of a run of them from a place on, three words for each.
+// The list of tokens of a whole text, or of a run of them from a place on, the words of a record for each.
 ghost use mathlib.Core.Path.{_≡_};
 ghost use Prim.Native.Nat.{_+_, _≤_};
-ghost use lib.ListN.{length, set};
+ghost use mathlib.Core.List.{[], _∷_};
+ghost use lib.ListN.{length};
+ghost use lib.Seq.{sets};
 ghost use Rattle.text.specs.Answer.{longest};
+ghost use Rattle.cutters.specs.Records.{recordWords};
 ghost use Rattle.lexer.specs.Unicode.{lent, unicode};
 ghost use Rattle.lexer.specs.Steps.{Filled, StoredTokens};
 ghost use Rattle.lexer.specs.Promises.{tokensBy, Listed, CutRun, TokenAt};
 pub use crate::advance::Piece;
 use crate::advance::advance_token;
+use cutters::RECORD;
 use text::Answer;
 use text::check_cut;
 use ucd::tables;
+
+// Runs are of 64 tokens where nobody says how many.
+const RUN: usize = 64 * RECORD;
 
 // The place behind a run of tokens, and how many they are.
 #[repr(C)]
@@ -19,9 +26,10 @@ pub struct Run {
     pub count: usize,
 }
 
+// The words of a record, from place k on.
 fn put(list: &mut [u32], k: usize, kind: u32, len: u32, suffix: u32)
-    requires { ⌜ k + 3 ≤ length (now list) ⌝ }
-    ensures { λ r. ⌜ now (list .exit) ≡ set (set (set (now (list .entry)) k kind) (k + 1) len) (k + 2) suffix ⌝ }
+    requires { ⌜ k + recordWords ≤ length (now list) ⌝ }
+    ensures { λ r. ⌜ now (list .exit) ≡ sets (now (list .entry)) k (kind ∷ len ∷ suffix ∷ []) ⌝ }
 {
     list[k] = kind;
     list[k + 1] = len;
@@ -42,7 +50,7 @@ fn fill(
     requires { ⌜ length (now text) ≤ longest ⌝ }
     ensures { λ r. ⌜ Filled (lent (now (start .entry)) (now (more .entry)) (now (emoji .entry))) profile (now (text .entry)) from (now (list .entry)) (r .at) (r .count) (now (list .exit)) ⌝ }
 {
-    let room = list.len() / 3;
+    let room = list.len() / RECORD;
     let mut at = from;
     let mut n: usize = 0;
     while n < room {
@@ -52,7 +60,7 @@ fn fill(
         let t = advance_token(text, at, profile, start, more, emoji);
         let len = (t.end - at) as u32;
         let suffix = (t.suffix - at) as u32;
-        put(list, 3 * n, t.kind, len, suffix);
+        put(list, RECORD * n, t.kind, len, suffix);
         n = n + 1;
         at = t.end;
     }
@@ -60,7 +68,7 @@ fn fill(
 }
 
 // The tokens of any bytes from a place on, as many as the list has room for, under any number as profile and over tables of the letters that are
-// lent. None of a text of more than 4,294,967,295 bytes, none at or past the end, none into fewer than three words: then the place is `from`.
+// lent. None of a text of more than 4,294,967,295 bytes, none at or past the end, none into fewer words than a record has: then the place is `from`.
 pub fn cut_run(
     text: &[u8],
     from: usize,
@@ -93,7 +101,7 @@ pub fn token_at(
 ) -> Piece
     ensures { λ r. ⌜ TokenAt (lent (now (start .entry)) (now (more .entry)) (now (emoji .entry))) profile (now (text .entry)) at (r .kind) (r .suffix) (r .end) ⌝ }
 {
-    let mut words = [0u32; 3];
+    let mut words = [0u32; RECORD];
     let r = cut_run(text, at, profile, &mut words, start, more, emoji);
     Piece {
         kind: words[0],
@@ -107,7 +115,7 @@ fn count(text: &[u8], profile: u32, start: &[u32], more: &[u32], emoji: &[u32]) 
     requires { ⌜ length (now text) ≤ longest ⌝ }
     ensures { λ r. ⌜ r ≡ length (tokensBy (lent (now (start .entry)) (now (more .entry)) (now (emoji .entry))) profile (now (text .entry))) ⌝ }
 {
-    let mut list = [0u32; 192];
+    let mut list = [0u32; RUN];
     let mut at: usize = 0;
     let mut n: usize = 0;
     while at < text.len() {
@@ -131,9 +139,9 @@ fn store(
     requires { ⌜ length (now text) ≤ longest ⌝ }
     ensures { λ r. ⌜ StoredTokens (lent (now (start .entry)) (now (more .entry)) (now (emoji .entry))) profile (now (text .entry)) (now (list .entry)) (r .number) (r .also) (now (list .exit)) ⌝ }
 {
-    if list.len() / 3 < text.len() {
+    if list.len() / RECORD < text.len() {
         let n = count(text, profile, start, more, emoji);
-        if list.len() / 3 < n {
+        if list.len() / RECORD < n {
             return Answer {
                 number: text::ROOM_TOO_SMALL,
                 also: n as u64,

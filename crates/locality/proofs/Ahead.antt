@@ -8,7 +8,8 @@ use lib.ListN.{length}
 use Rattle.unicode.specs.Utf8.{chars, width, Encoded, WellFormed}
 use Rattle.unicode.specs.Text.{byteLength}
 use Rattle.unicode.proofs.Valid.{width-some, read-back, well-formed-encoded, encode-bytes, read-all}
-use Rattle.lexer.specs.Cut.{Letters, Token, nextToken, tokens, total}
+use Rattle.cutters.specs.Records.{Token, total}
+use Rattle.lexer.specs.Cut.{Letters, nextToken, tokens}
 use Rattle.lexer.specs.Unicode.{unicode}
 use Rattle.lexer.specs.Promises.{tokensOf}
 use Rattle.locality.specs.Phases.{act, Usual}

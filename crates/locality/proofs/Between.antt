@@ -8,7 +8,8 @@ use borrow.Author.Tests.{eqb-true, eqb-false}
 use Rattle.lists.proofs.Bools.{by-test}
 use Rattle.unicode.specs.Utf8.{width}
 use Rattle.lexer.specs.Kinds.{whitespaceKind}
-use Rattle.lexer.specs.Cut.{Letters, Token, nextToken}
+use Rattle.cutters.specs.Records.{Token}
+use Rattle.lexer.specs.Cut.{Letters, nextToken}
 use Rattle.locality.specs.Phases.{act, first, Usual}
 use Rattle.locality.proofs.Phases.{next-run, two, ends}
 use Rattle.locality.proofs.Swap.{Swap, Always, swap-front, run-swap}

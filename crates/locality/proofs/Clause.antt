@@ -17,7 +17,8 @@ use Rattle.unicode.specs.Utf8.{chars, isScalar, encode, encodeAll, WellFormed}
 use Rattle.unicode.specs.Text.{byteLength}
 use Rattle.unicode.proofs.Valid.{encoded-well-formed, well-formed-encoded, encode-append, encode-bytes, read-all}
 use Rattle.letters.specs.Chars.{isWhitespace, whitespace}
-use Rattle.lexer.specs.Cut.{Letters, Token, advance, nextToken, tokens, total}
+use Rattle.cutters.specs.Records.{Token, total}
+use Rattle.lexer.specs.Cut.{Letters, advance, nextToken, tokens}
 use Rattle.lexer.specs.Unicode.{unicode}
 use Rattle.lexer.specs.Promises.{tokensOf}
 use Rattle.tokens.specs.Tiling.{Formed}

@@ -20,7 +20,8 @@ use Rattle.unicode.proofs.Valid.{width-some, encoded-well-formed, well-formed-e
 use Rattle.unicode.proofs.Ascii.{chars-ascii}
 use Rattle.letters.specs.Chars.{isWhitespace}
 use Rattle.lexer.specs.Kinds.{blockComment, whitespaceKind}
-use Rattle.lexer.specs.Cut.{Token, nextToken, tokens, total}
+use Rattle.cutters.specs.Records.{Token, total}
+use Rattle.lexer.specs.Cut.{nextToken, tokens}
 use Rattle.lexer.specs.Unicode.{unicode}
 use Rattle.lexer.specs.Promises.{tokensOf}
 use Rattle.locality.specs.Phases.{Seen, bits, broken, other, seenKind}

@@ -8,7 +8,8 @@ use mathlib.Core.List.{List, [], _∷_, _++_, append-assoc, append-nil, cons≢n
 use Rattle.lists.proofs.Bools.{both}
 use Rattle.unicode.specs.Text.{byteLength}
 use Rattle.unicode.proofs.Text.{bytes-append}
-use Rattle.lexer.specs.Cut.{Letters, Token, advance, nextToken, tokens, total}
+use Rattle.cutters.specs.Records.{Token, total}
+use Rattle.lexer.specs.Cut.{Letters, advance, nextToken, tokens}
 use Rattle.lexer.proofs.Shapes.{ends-advance, tokens-nil, tokens-cons}
 use Rattle.tokens.specs.Members.{isCounted}
 

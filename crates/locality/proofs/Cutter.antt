@@ -10,12 +10,14 @@ use Rattle.lists.proofs.Cut.{cut-nil, cut-cons, by-length}
 use Rattle.unicode.specs.Utf8.{first, chars}
 use Rattle.unicode.specs.Text.{byteLength}
 use Rattle.unicode.proofs.Text.{chars-nil, chars-first, bytes-chars}
-use Rattle.lexer.specs.Cut.{Token, nextToken, tokens, total}
+use Rattle.cutters.specs.Records.{Token, total}
+use Rattle.lexer.specs.Cut.{nextToken, tokens}
 use Rattle.lexer.specs.Unicode.{unicode}
 use Rattle.lexer.specs.Promises.{tokensOf}
 use Rattle.lexer.proofs.Shapes.{tokens-nil}
 use Rattle.tokens.proofs.First.{tokens-first, first-some}
-use Rattle.locality.specs.Cutter.{Cutter, cutBytes, firstToken}
+use Rattle.cutters.specs.Cutter.{Cutter, cutBytes}
+use Rattle.locality.specs.First.{firstToken}
 
 module _ (k : Cutter) where
   pub cut-none : cutBytes k [] ≡ []

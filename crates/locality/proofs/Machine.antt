@@ -11,7 +11,8 @@ use Rattle.lists.proofs.Bools.{by-test}
 use Rattle.lists.proofs.Eat.{eat-nil, eat-more, eat-stop}
 use Rattle.unicode.specs.Utf8.{width}
 use Rattle.unicode.specs.Text.{byteLength}
-use Rattle.lexer.specs.Cut.{Token, Piece}
+use Rattle.cutters.specs.Records.{Token}
+use Rattle.lexer.specs.Cut.{Piece}
 use Rattle.locality.specs.Machine.{Act, eats, halts, ended, run}
 
 module _ {Q : Type 0} (act : Q → List ℕ → Act Q) where

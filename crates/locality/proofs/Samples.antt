@@ -12,8 +12,9 @@ use Rattle.ucd.specs.Ucd.{xidStart, xidContinue, emoji}
 use Rattle.unicode.specs.Utf8.{table, behind, begins, joined, readBy, first, next, chars, width}
 use Rattle.unicode.specs.Text.{byteLength, skip}
 use Rattle.letters.specs.Chars.{whitespace}
+use Rattle.cutters.specs.Records.{flatFrom}
 use Rattle.lexer.specs.Kinds.{marks, markIn}
-use Rattle.lexer.specs.Cut.{notLf, isDigit, isHexDigit, block, slash, digits, exponent, exponentOf, point, fraction, based, number, isUnit, quoted, withoutLf, twice, quoteKind, agree, pound, name, word, annotated, hardware, identifier, numberSuffix, advance, nextToken, tokens, flat}
+use Rattle.lexer.specs.Cut.{notLf, isDigit, isHexDigit, block, slash, digits, exponent, exponentOf, point, fraction, based, number, isUnit, quoted, withoutLf, twice, quoteKind, agree, pound, name, word, annotated, hardware, identifier, numberSuffix, advance, nextToken, tokens}
 use Rattle.lexer.specs.Unicode.{unicode}
 use Rattle.lexer.specs.Promises.{tokensOf}
 use Rattle.locality.specs.Machine.{run, cutBy}
@@ -25,7 +26,7 @@ use Rattle.locality.specs.Changes.{inserted}
 
 -- ---- the machine, on bytes
 abbrev cuts : ℕ → List ℕ → List ℕ
-cuts profile s = flat (cutBy (act unicode) (Phases.first unicode profile) (chars s))
+cuts profile s = flatFrom s 0 (cutBy (act unicode) (Phases.first unicode profile) (chars s))
 
 -- `pragma x`, LF, `1.5ns` under both profiles; `/*/**/`; `"0`, LF, `"`; `#prag`; `1.e5`
 machine-samples :
@@ -35,7 +36,7 @@ machine-samples :
     × (cuts 0 (0x22 ∷ 0x30 ∷ 0x0A ∷ 0x22 ∷ []) ≡ 57 ∷ 4 ∷ 4 ∷ [])
     × (cuts 0 (0x23 ∷ 0x70 ∷ 0x72 ∷ 0x61 ∷ 0x67 ∷ []) ≡ 7 ∷ 5 ∷ 0 ∷ [])
     × (cuts 0 (0x31 ∷ 0x2E ∷ 0x65 ∷ 0x35 ∷ []) ≡ 52 ∷ 4 ∷ 2 ∷ [])
-unfolding all pieces cut eat inTable xidStart xidContinue emoji table behind begins joined readBy first next chars width whitespace marks markIn isUnit notLf isDigit isHexDigit unicode flat run cutBy act Phases.first
+unfolding all pieces cut eat inTable xidStart xidContinue emoji table behind begins joined readBy first next chars width whitespace marks markIn isUnit notLf isDigit isHexDigit unicode flatFrom run cutBy act Phases.first
 machine-samples = (refl, refl, refl, refl, refl, refl)
 
 -- ---- the counted tokens, on bytes

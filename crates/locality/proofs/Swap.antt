@@ -8,7 +8,7 @@ use mathlib.Core.Bool.{Bool, cond}
 use mathlib.Core.List.{List, [], _∷_, _++_}
 use lib.ListN.{length, length-append}
 use Rattle.unicode.specs.Utf8.{width}
-use Rattle.lexer.specs.Cut.{Token}
+use Rattle.cutters.specs.Records.{Token}
 use Rattle.locality.specs.Machine.{Act, eats, halts, run, LooksAtTwo}
 use Rattle.locality.proofs.Machine.{run-eats, run-halts, run-length, by-act}
 

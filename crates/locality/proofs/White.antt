@@ -14,7 +14,8 @@ use Rattle.unicode.specs.Text.{byteLength, skip}
 use Rattle.unicode.proofs.Text.{skip-nil, skip-more, skip-stop}
 use Rattle.letters.specs.Chars.{isWhitespace, whitespace}
 use Rattle.lexer.specs.Kinds.{whitespaceKind}
-use Rattle.lexer.specs.Cut.{Letters, Token, advance, nextToken}
+use Rattle.cutters.specs.Records.{Token}
+use Rattle.lexer.specs.Cut.{Letters, advance, nextToken}
 use Rattle.tokens.specs.Members.{isCounted}
 use Rattle.locality.proofs.Counted.{white-first}
 use Rattle.locality.proofs.Cuts.{Item, counted, Cuts, none, more, Over, over-self}

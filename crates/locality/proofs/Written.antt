@@ -11,7 +11,8 @@ use Rattle.lists.proofs.All.{all-append}
 use Rattle.lists.proofs.Bools.{by-test}
 use Rattle.unicode.specs.Utf8.{chars, isScalar, encodeAll}
 use Rattle.unicode.proofs.Valid.{encode-append, encode-bytes, read-all}
-use Rattle.lexer.specs.Cut.{Letters, Token, tokens}
+use Rattle.cutters.specs.Records.{Token}
+use Rattle.lexer.specs.Cut.{Letters, tokens}
 use Rattle.lexer.specs.Unicode.{unicode}
 use Rattle.lexer.specs.Promises.{tokensOf}
 use Rattle.lexer.proofs.Shapes.{tokens-nil}

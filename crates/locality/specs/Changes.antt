@@ -7,7 +7,7 @@ use mathlib.Core.List.{List, [], _∷_, _++_}
 use lib.Dec.{eqb}
 use lib.ListN.{length, take, drop}
 use Rattle.lexer.specs.Kinds.{lineComment, unclosedComment, whitespaceKind, pragma, annotation, str, bitStr}
-use Rattle.lexer.specs.Cut.{Token, total}
+use Rattle.cutters.specs.Records.{Token, total}
 use Rattle.lexer.specs.Promises.{tokensOf}
 
 -- the last token passes a test

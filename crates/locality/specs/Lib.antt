@@ -2,5 +2,5 @@ pub mod Machine
 pub mod Phases
 pub mod Newline
 pub mod Changes
-pub mod Cutter
+pub mod First
 pub mod Feed

@@ -6,7 +6,7 @@ use mathlib.Core.Bool.{Bool, cond}
 use mathlib.Core.List.{List, [], _∷_}
 use Rattle.lists.specs.Cut.{cut}
 use Rattle.unicode.specs.Utf8.{width}
-use Rattle.lexer.specs.Cut.{Token}
+use Rattle.cutters.specs.Records.{Token}
 
 pub data Act (Q : Type 0) : Type 0 where
   -- one character is eaten; true: the suffix starts at it

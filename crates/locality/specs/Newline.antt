@@ -6,7 +6,7 @@ use mathlib.Core.Bool.{Bool, true, not}
 use mathlib.Core.List.{List, _∷_, _++_}
 use lib.ListN.{length, take, drop}
 use Rattle.lists.specs.All.{all}
-use Rattle.lexer.specs.Cut.{Token, total}
+use Rattle.cutters.specs.Records.{Token, total}
 use Rattle.lexer.specs.Promises.{tokensOf}
 use Rattle.tokens.specs.Members.{isCounted}
 

@@ -4,6 +4,7 @@
 // tokens, 1 for a refusal and 2 for all else.
 ghost use Prim.Native.Nat.{_≤_};
 ghost use lib.ListN.{length};
+use cutters::RECORD;
 use libc::STDIN_FILENO;
 use libc::STDOUT_FILENO;
 use text::Answer;
@@ -14,8 +15,8 @@ const MOST: usize = 2048;
 // One more, so that a longer input is seen.
 const BUFFER: usize = MOST + 1;
 
-// Three words for each byte: room that cannot be short.
-const LIST: usize = 3 * MOST;
+// A record for each byte: room that cannot be short.
+const LIST: usize = RECORD * MOST;
 
 // Whether reading went well, and how many bytes there are.
 struct Input {
@@ -54,7 +55,7 @@ fn print_refusal(given: Answer) -> bool {
 
 // What stands behind a word of the list.
 fn print_gap(i: usize) -> bool {
-    if i % 3 == 2 {
+    if i % RECORD == RECORD - 1 {
         print(b"\n")
     } else {
         print(b" ")
@@ -65,7 +66,7 @@ fn print_gap(i: usize) -> bool {
 fn print_records(list: &[u32], n: u64) -> bool {
     let mut i = 0;
     while i < list.len() {
-        if n <= (i / 3) as u64 {
+        if n <= (i / RECORD) as u64 {
             return true;
         }
         if !print_word(list[i]) {

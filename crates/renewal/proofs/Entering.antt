@@ -10,7 +10,7 @@ use lib.ListN.{length, take, drop, getD, length-append, length-take}
 use lib.Seq.{drop-drop, getD-drop}
 use Rattle.lists.specs.Steps.{PutIf}
 use Rattle.lists.proofs.Store.{StoringFrom, storing-from, storing-on, storing-put}
-use Rattle.lexer.specs.Cut.{Token, flat, total}
+use Rattle.cutters.specs.Records.{Token, total, recordWords, flatFrom}
 use Rattle.renewal.specs.Steps.{member, entry, toks, entries, Ready, RunReady}
 
 -- what is still to be entered
@@ -32,13 +32,13 @@ module _ {table key₀ text list key : List ℕ} {write : Bool} {k from count at
   abbrev rest : List Token
   rest = toks list (suc i) (count - suc i)
 
-  front : toks list i (count - i) ≡ record { kind = getD list (3 * i) 0; len = getD list (3 * i + 1) 0; suffix = getD list (3 * i + 2) 0 } ∷ rest
+  front : toks list i (count - i) ≡ record { kind = getD list (recordWords * i) 0; len = getD list (recordWords * i + 1) 0; suffix = getD list (recordWords * i + 2) 0 } ∷ rest
   unfolding toks
   front = let e : count - i ≡ suc (count - suc i) = omega arith in rw e
 
-  module _ {end : ℕ} (u : end ≡ at + getD list (3 * i + 1) 0) where
+  module _ {end : ℕ} (u : end ≡ at + getD list (recordWords * i + 1) 0) where
     abbrev own : List ℕ
-    own = entry (member (getD list (3 * i) 0) (getD list (3 * i + 2) 0) (take (end - at) (drop at text)))
+    own = entry (member (getD list (recordWords * i) 0) (getD list (recordWords * i + 2) 0) (take (end - at) (drop at text)))
 
     pub enter-within : end ≤ length text
     enter-within = omega (arith, w .place, q .within, ap total front)
@@ -46,7 +46,7 @@ module _ {table key₀ text list key : List ℕ} {write : Bool} {k from count at
     view : onwards text list count at i ≡ own ++ onwards text list count end (suc i)
     unfolding entries
     view =
-        let m : getD list (3 * i + 1) 0 ≡ end - at = omega arith in
+        let m : getD list (recordWords * i + 1) 0 ≡ end - at = omega arith in
         let s : at + (end - at) ≡ end = omega arith in
         let far : drop (end - at) (drop at text) ≡ drop end text = drop-drop (end - at) at text ∙ rw s in
         ap (entries (drop at text)) front ∙ rw (m, far)
@@ -54,7 +54,7 @@ module _ {table key₀ text list key : List ℕ} {write : Bool} {k from count at
     long : length (onwards text list count at i) ≡ length own + length (onwards text list count end (suc i))
     long = ap length view ∙ length-append own (onwards text list count end (suc i))
 
-    pub enter-ready : {kind suffix : ℕ} → kind ≡ getD list (3 * i) 0 → suffix ≡ getD list (3 * i + 2) 0 → Ready table write n kind suffix (take (end - at) (drop at text)) key
+    pub enter-ready : {kind suffix : ℕ} → kind ≡ getD list (recordWords * i) 0 → suffix ≡ getD list (recordWords * i + 2) 0 → Ready table write n kind suffix (take (end - at) (drop at text)) key
     enter-ready a b =
         rw (a, b)
         (record {
@@ -64,7 +64,7 @@ module _ {table key₀ text list key : List ℕ} {write : Bool} {k from count at
           room = λ t. omega (arith, w .storing .count, w .storing .long, q .room t, long);
         })
 
-    pub enter-on : {kind suffix i′ n′ : ℕ} {key′ : List ℕ} → kind ≡ getD list (3 * i) 0 → suffix ≡ getD list (3 * i + 2) 0 → i′ ≡ i + 1 → PutIf write key n (entry (member kind suffix (take (end - at) (drop at text)))) key′ n′ → Entering write key₀ k text from list count end i′ n′ key′
+    pub enter-on : {kind suffix i′ n′ : ℕ} {key′ : List ℕ} → kind ≡ getD list (recordWords * i) 0 → suffix ≡ getD list (recordWords * i + 2) 0 → i′ ≡ i + 1 → PutIf write key n (entry (member kind suffix (take (end - at) (drop at text)))) key′ n′ → Entering write key₀ k text from list count end i′ n′ key′
     enter-on {kind} {suffix} {i′} {n′} {key′} a b c p₀ =
         let p : PutIf write key n own key′ n′ = rw (a, b) at p₀ in
         let e : i′ ≡ suc i = omega arith in
@@ -82,13 +82,14 @@ enter-end {key₀} {text} {list} {key} {write} {k} {from} {count} {at} {i} w h =
     storing-put (rw z at (w .storing))
 
 -- ---- the words of a run are its tokens
-pub toks-of : (ts : List Token) (x list : List ℕ) (i : ℕ) → drop (3 * i) list ≡ flat ts ++ x → toks list i (length ts) ≡ ts
-unfolding toks flat
-toks-of [] x list i e = refl
-toks-of (t ∷ ts) x list i e =
-    let k : getD list (3 * i) 0 ≡ t .kind = ap (λ (n : ℕ). getD list n 0) (sym (add-zero (3 * i))) ∙ sym (getD-drop (3 * i) list 0 0) ∙ ap (λ (l : List ℕ). getD l 0 0) e in
-    let m : getD list (3 * i + 1) 0 ≡ t .len = sym (getD-drop (3 * i) list 1 0) ∙ ap (λ (l : List ℕ). getD l 1 0) e in
-    let f : getD list (3 * i + 2) 0 ≡ t .suffix = sym (getD-drop (3 * i) list 2 0) ∙ ap (λ (l : List ℕ). getD l 2 0) e in
-    let s : 3 * suc i ≡ 3 * i + 3 = omega arith in
-    let far : drop (3 * suc i) list ≡ flat ts ++ x = ap (λ (n : ℕ). drop n list) s ∙ sym (drop-drop 3 (3 * i) list) ∙ ap (drop 3) e in
-    rw (k, m, f, toks-of ts x list (suc i) far)
+pub toks-of : (s : List ℕ) (at : ℕ) (ts : List Token) (x list : List ℕ) (i : ℕ) → drop (recordWords * i) list ≡ flatFrom s at ts ++ x → toks list i (length ts) ≡ ts
+unfolding toks flatFrom
+toks-of s at [] x list i e = refl
+toks-of s at (t ∷ ts) x list i e =
+    let k : getD list (recordWords * i) 0 ≡ t .kind = ap (λ (n : ℕ). getD list n 0) (sym (add-zero (recordWords * i))) ∙ sym (getD-drop (recordWords * i) list 0 0) ∙ ap (λ (l : List ℕ). getD l 0 0) e in
+    let m : getD list (recordWords * i + 1) 0 ≡ t .len = sym (getD-drop (recordWords * i) list 1 0) ∙ ap (λ (l : List ℕ). getD l 1 0) e in
+    let f : getD list (recordWords * i + 2) 0 ≡ t .suffix = sym (getD-drop (recordWords * i) list 2 0) ∙ ap (λ (l : List ℕ). getD l 2 0) e in
+    let n : recordWords * suc i ≡ recordWords * i + recordWords = omega arith in
+    let far : drop (recordWords * suc i) list ≡ flatFrom s (at + t .len) ts ++ x =
+    ap (λ (n : ℕ). drop n list) n ∙ sym (drop-drop recordWords (recordWords * i) list) ∙ ap (drop recordWords) e in
+    rw (k, m, f, toks-of s (at + t .len) ts x list (suc i) far)

@@ -10,7 +10,7 @@ use Rattle.lists.specs.All.{Each}
 use Rattle.lists.proofs.Cut.{by-length}
 use Rattle.text.specs.Answer.{done, longest, checkCut}
 use Rattle.text.proofs.Checks.{cut-accepted}
-use Rattle.lexer.specs.Cut.{Token}
+use Rattle.cutters.specs.Records.{Token}
 use Rattle.tokens.specs.Members.{isCounted, memberOf, counted, membersBy, membersOf}
 use Rattle.renewal.specs.Key.{keyOf, keyBy, keyOfText}
 use Rattle.renewal.specs.Rules.{Ruled, Keyable}

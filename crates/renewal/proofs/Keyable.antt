@@ -16,11 +16,12 @@ use Rattle.unicode.specs.Text.{byteLength}
 use Rattle.unicode.proofs.Text.{chars-nil, chars-first, bytes-chars}
 use Rattle.unicode.proofs.Ascii.{chars-ascii, wide-code}
 use Rattle.text.specs.Answer.{longest}
-use Rattle.lexer.specs.Cut.{Letters, Token, Piece, advance, nextToken, tokens, flat, total}
+use Rattle.cutters.specs.Records.{Token, total, recordWords, flatFrom}
+use Rattle.cutters.proofs.Records.{length-flat}
+use Rattle.lexer.specs.Cut.{Letters, Piece, advance, nextToken, tokens}
 use Rattle.lexer.specs.Unicode.{unicode}
 use Rattle.lexer.specs.Promises.{tokensOf, run, CutRun, tokensBy}
 use Rattle.lexer.proofs.Shapes.{Shape, plain, literal, advance-shape, tokens-nil}
-use Rattle.lexer.proofs.Whole.{length-flat}
 use Rattle.tokens.proofs.First.{tokens-first, first-some}
 use Rattle.tokens.proofs.Tiling.{formed-of}
 use Rattle.tokens.specs.Members.{isCounted, memberOf}
@@ -114,25 +115,25 @@ unfolding tokensOf
 profile-keyable profile = keyable unicode profile
 
 -- ---- what `cut_run` gives are the tokens at the front
-module _ {u : Letters} {profile : ℕ} {s list list′ : List ℕ} {at at′ count : ℕ} (l : length list ≡ 192) (short : length s ≤ longest) (r : CutRun u profile s at list at′ count list′) where
+module _ {u : Letters} {profile : ℕ} {s list list′ : List ℕ} {at at′ count : ℕ} (l : length list ≡ 64 * recordWords) (short : length s ≤ longest) (r : CutRun u profile s at list at′ count list′) where
   abbrev ts : List Token
   ts = take 64 (tokensBy u profile (drop at s))
 
-  run-is : run u profile s at (length list / 3) ≡ ts
+  run-is : run u profile s at (length list / recordWords) ≡ ts
   unfolding run
-  run-is = let e : length list / 3 ≡ 64 = ap (λ (n : ℕ). n / 3) l in rw (le-ltb longest (length s) short, e)
+  run-is = let e : length list / recordWords ≡ 64 = ap (λ (n : ℕ). n / recordWords) l in rw (le-ltb longest (length s) short, e)
 
   count-is : count ≡ length ts
   count-is = r .many ∙ ap length run-is
 
-  words-are : list′ ≡ flat ts ++ drop (length (flat ts)) list
+  words-are : list′ ≡ flatFrom s at ts ++ drop (length (flatFrom s at ts)) list
   words-are = r .words ∙ rw run-is
 
   tokens-are : toks list′ 0 count ≡ ts
-  tokens-are = rw count-is (toks-of ts (drop (length (flat ts)) list) list′ 0 words-are)
+  tokens-are = rw count-is (toks-of s at ts (drop (length (flatFrom s at ts)) list) list′ 0 words-are)
 
-  run-words : 3 * count ≤ length list′
-  run-words = omega (arith, count-is, ap length words-are, length-append (flat ts) (drop (length (flat ts)) list), length-flat ts)
+  run-words : recordWords * count ≤ length list′
+  run-words = omega (arith, count-is, ap length words-are, length-append (flatFrom s at ts) (drop (length (flatFrom s at ts)) list), length-flat s at ts)
 
   run-end : at′ ≡ at + total ts
   run-end = r .reached ∙ rw run-is

@@ -9,7 +9,7 @@ use lib.Dec.{eqb}
 use lib.ListN.{length, take, drop, length-append, length-drop}
 use lib.Seq.{length-take-le, drop-drop}
 use Rattle.lists.proofs.Cut.{by-length}
-use Rattle.lexer.specs.Cut.{Token, total}
+use Rattle.cutters.specs.Records.{Token, total}
 use Rattle.tokens.specs.Members.{isCounted, memberOf, counted, membersBy}
 use Rattle.renewal.specs.Key.{noBody, bodyLength, encode, keyOf, keyBy}
 use Rattle.renewal.specs.Rules.{First, Keyable}

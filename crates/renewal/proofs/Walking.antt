@@ -10,7 +10,7 @@ use lib.Seq.{drop-drop}
 use Rattle.lists.specs.Steps.{PutIf}
 use Rattle.lists.proofs.Store.{Storing, storing-none, storing-on, storing-end}
 use Rattle.text.specs.Answer.{longest}
-use Rattle.lexer.specs.Cut.{Token, total}
+use Rattle.cutters.specs.Records.{Token, total, recordWords}
 use Rattle.tokens.specs.Members.{counted, membersBy}
 use Rattle.renewal.specs.Key.{keyOf, keyBy}
 use Rattle.renewal.specs.Steps.{bodies, toks, entries, RunReady, Walked}
@@ -29,7 +29,7 @@ walking-none cutter s write key h =
 
 module _ {cutter : List ℕ → List Token} {s key₀ key : List ℕ} {write : Bool} {at n : ℕ} {ts : List Token} (list : List ℕ) (count : ℕ)
     (w : Walking cutter s write key₀ at n key) (r : Taken cutter (drop at s) ts) (e : toks list 0 count ≡ ts) where
-  pub walk-ready : {table : List ℕ} → table ≡ bodies → length s ≤ longest → 3 * count ≤ length list → RunReady table write n s at list count key
+  pub walk-ready : {table : List ℕ} → table ≡ bodies → length s ≤ longest → recordWords * count ≤ length list → RunReady table write n s at list count key
   walk-ready b l c =
       let x = ap length (r .view) ∙ length-append (entries (drop at s) ts) (keyBy cutter (drop (total ts) (drop at s))) in
       let y : total ts ≤ length s - at = omega (arith, r .within, length-drop at s) in

@@ -13,7 +13,8 @@ use Rattle.lists.proofs.Bools.{by-test, on-cond}
 use Rattle.text.specs.Answer.{Answered, done, roomTooSmall, checkCut}
 use Rattle.text.specs.Steps.{Entered}
 use Rattle.text.proofs.Room as room
-use Rattle.lexer.specs.Cut.{Letters, Token}
+use Rattle.cutters.specs.Records.{Token}
+use Rattle.lexer.specs.Cut.{Letters}
 use Rattle.unicode.specs.Ranges.{flat}
 use Rattle.ucd.specs.Ucd.{xidStart, xidContinue, emoji}
 use Rattle.lexer.specs.Unicode.{lent}

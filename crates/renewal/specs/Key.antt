@@ -7,7 +7,7 @@ use lib.Dec.{eqb, leb}
 use lib.ListN.{length, take, drop}
 use Rattle.lists.specs.Cut.{cut}
 use Rattle.lexer.specs.Kinds.{unclosedComment, ident, annotation, dollar, unknown, isLiteral}
-use Rattle.lexer.specs.Cut.{Token}
+use Rattle.cutters.specs.Records.{Token}
 use Rattle.tokens.specs.Members.{Member, membersBy, membersOf}
 
 -- ---- the body

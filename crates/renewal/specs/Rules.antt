@@ -8,7 +8,7 @@ use lib.Dec.{eqb}
 use lib.ListN.{length, drop}
 use Rattle.text.specs.Answer.{longest}
 use Rattle.lexer.specs.Kinds.{atSign, slashMark, marks}
-use Rattle.lexer.specs.Cut.{Token}
+use Rattle.cutters.specs.Records.{Token}
 use Rattle.tokens.specs.Members.{Member, isCounted, memberOf}
 use Rattle.renewal.specs.Key.{noBody, bodyLength}
 

@@ -10,7 +10,7 @@ use lib.Seq.{sets}
 use Rattle.lists.specs.Steps.{valuesFrom}
 use Rattle.text.specs.Answer.{longest}
 use Rattle.text.specs.Steps.{Stored}
-use Rattle.lexer.specs.Cut.{Token, total}
+use Rattle.cutters.specs.Records.{Token, total, recordWords}
 use Rattle.tokens.specs.Members.{Member}
 use Rattle.renewal.specs.Key.{noBody, bodyLength, encode, keyBy}
 
@@ -53,7 +53,7 @@ pub record Ready (table : List ℕ) (write : Bool) (k kind suffix : ℕ) (text k
 -- those that stand in a list of words from record i on, so many
 unfoldable pub toks : List ℕ → ℕ → ℕ → List Token
 toks list i zero = []
-toks list i (suc n) = record { kind = getD list (3 * i) 0; len = getD list (3 * i + 1) 0; suffix = getD list (3 * i + 2) 0 } ∷ toks list (suc i) n
+toks list i (suc n) = record { kind = getD list (recordWords * i) 0; len = getD list (recordWords * i + 1) 0; suffix = getD list (recordWords * i + 2) 0 } ∷ toks list (suc i) n
 
 -- what the tokens at the front of a text add to the key
 unfoldable pub entries : List ℕ → List Token → List ℕ
@@ -64,7 +64,7 @@ entries s (t ∷ ts) = entry (member (t .kind) (t .suffix) (take (t .len) s)) ++
 pub record RunReady (table : List ℕ) (write : Bool) (k : ℕ) (s : List ℕ) (from : ℕ) (list : List ℕ) (count : ℕ) (key : List ℕ) : Type 0 where
   pub table-is : table ≡ bodies
   pub short : length s ≤ longest
-  pub words : 3 * count ≤ length list
+  pub words : recordWords * count ≤ length list
   pub within : from + total (toks list 0 count) ≤ length s
   pub low : k + length (entries (drop from s) (toks list 0 count)) ≤ 11 * longest
   pub room : (write ≡ true → k + length (entries (drop from s) (toks list 0 count)) ≤ length key)

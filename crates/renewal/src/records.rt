@@ -9,6 +9,7 @@ ghost use Rattle.renewal.specs.Key.{word, texts, encode};
 ghost use Rattle.renewal.specs.Steps.{sizeBy, member, entry, toks, entries, BodyFits, Writable, Ready, RunReady};
 use crate::table::NO_BODY;
 use crate::table::body_length;
+use cutters::RECORD;
 
 fn put_byte(key: &mut [u8], k: usize, b: u8) -> usize
     requires { ⌜ k + 1 ≤ length (now key) ⌝ }
@@ -196,9 +197,9 @@ pub fn put_members(
     let mut i: usize = 0;
     let mut n = k;
     while i < count {
-        let kind = list[3 * i];
-        let end = at + list[3 * i + 1] as usize;
-        let suffix = list[3 * i + 2];
+        let kind = list[RECORD * i];
+        let end = at + list[RECORD * i + 1] as usize;
+        let suffix = list[RECORD * i + 2];
         n = put_member(key, write, n, kind, suffix, &text[at..end], table);
         at = end;
         i = i + 1;

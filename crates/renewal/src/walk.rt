@@ -10,6 +10,7 @@ ghost use Rattle.renewal.specs.Key.{keyBy};
 ghost use Rattle.renewal.specs.Steps.{bodies, Walked, StoredKey};
 use crate::records::put_members;
 use crate::table;
+use cutters::RECORD;
 use lexer::list::cut_run;
 use text::Answer;
 use ucd::tables;
@@ -28,7 +29,7 @@ fn walk(
     requires { ⌜ (length (now text) ≤ longest) × (now body ≡ bodies) × (write ≡ true → length (keyBy (tokensBy (lent (now start) (now more) (now emoji)) profile) (now text)) ≤ length (now key)) ⌝ }
     ensures { λ r. ⌜ Walked (tokensBy (lent (now (start .entry)) (now (more .entry)) (now (emoji .entry))) profile) (now (text .entry)) write (now (key .entry)) r (now (key .exit)) ⌝ }
 {
-    let mut list = [0u32; 192];
+    let mut list = [0u32; 64 * RECORD];
     let mut at: usize = 0;
     let mut n: usize = 0;
     while at < text.len() {

@@ -13,8 +13,9 @@ use Rattle.lists.proofs.Bools.{by-test}
 use Rattle.unicode.specs.Utf8.{chars}
 use Rattle.unicode.specs.Text.{left}
 use Rattle.unicode.proofs.Text.{point-at, left-end, bytes-chars}
-use Rattle.lexer.specs.Cut as cut
-use Rattle.lexer.specs.Cut.{Letters, nextToken, tokens, total}
+use Rattle.cutters.specs.Records as definitions
+use Rattle.cutters.specs.Records.{total}
+use Rattle.lexer.specs.Cut.{Letters, nextToken, tokens}
 use Rattle.lexer.proofs.Shapes.{tokens-nil}
 use Rattle.tokens.proofs.First.{tokens-first}
 use Rattle.tokens.proofs.Tiling.{tiles-chars}
@@ -23,18 +24,18 @@ use Rattle.lexer.specs.Promises.{front}
 use Rattle.rows.specs.Steps.{recordAt, placeAfter, recordNo, rowAfter, Filled}
 use Rattle.rows.specs.declared.Token.{Token}
 
-pub length-records : (ts : List cut.Token) → length (records ts) ≡ length ts
+pub length-records : (ts : List definitions.Token) → length (records ts) ≡ length ts
 unfolding records
 length-records [] = refl
 length-records (t ∷ ts) = ap suc (length-records ts)
 
 module _ (u : Letters) (profile : ℕ) (s : List ℕ) where
-  abbrev from : ℕ → List cut.Token
+  abbrev from : ℕ → List definitions.Token
   from at = tokens u profile (left s at)
 
   -- the token at a place before the end
   record Stepped (at : ℕ) : Type 0 where
-    pub token : cut.Token
+    pub token : definitions.Token
     pub first-is : front (from at) ≡ token
     pub tokens-are : from at ≡ token ∷ from (at + token .len)
     pub within : at + token .len ≤ length s
@@ -70,9 +71,9 @@ module _ (u : Letters) (profile : ℕ) (s : List ℕ) where
       let d = stepped at h in
       let e : from at ≡ d .token ∷ from (at + recordAt u profile s at .len) = d .tokens-are ∙ rw (d .first-is) in
       record {
-        within = omega (arith, d .within, ap (λ (t : cut.Token). t .len) (d .first-is));
+        within = omega (arith, d .within, ap (λ (t : definitions.Token). t .len) (d .first-is));
         count = omega (arith, f .count, ap length e);
-        same = (rw (d .first-is) (ap (λ (ts : List cut.Token). sets (rowAfter u profile s row i) i (records ts)) (sym (d .tokens-are)))) ∙ f .same;
+        same = (rw (d .first-is) (ap (λ (ts : List definitions.Token). sets (rowAfter u profile s row i) i (records ts)) (sym (d .tokens-are)))) ∙ f .same;
       }
 
   pub filling : (row : List Token) (i : ℕ) → i ≤ length (tokens u profile (chars s)) → Filling row i

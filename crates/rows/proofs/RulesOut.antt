@@ -16,6 +16,7 @@ use Rattle.unicode.specs.Utf8.{table, behind, begins, joined, readBy, first, ne
 use Rattle.unicode.specs.Text.{byteLength, skip}
 use Rattle.text.specs.Answer.{checkText, checkCut}
 use Rattle.letters.specs.Chars.{whitespace}
+use Rattle.cutters.specs.Records.{recordWords}
 use Rattle.lexer.specs.Kinds.{marks, markIn}
 use Rattle.lexer.specs.Cut.{isDigit, advance, nextToken, tokens}
 use Rattle.lexer.specs.Unicode.{unicode}
@@ -45,7 +46,7 @@ rules-out-one-more p = ap (λ (x : List Token). getD x 1 seven) (p .row-is ∙ l
 -- a refusal that writes, at any text, profile and row: a refused call leaves the row as it was
 pub rules-out-refusal-writes : {s : List ℕ} {profile : ℕ} {row : List Token} {n a : ℕ} {l : List Token} → Rowed s profile row n a l → (n ≡ 0 → ⊥) → l ≡ row
 unfolding rowed
-rules-out-refusal-writes {s} {profile} {row} p h = p .row-is ∙ rw (ne-eqb (answerOf s profile (3 * length row) .0) 0 (λ e. h (p .answer .number-is ∙ e)))
+rules-out-refusal-writes {s} {profile} {row} p h = p .row-is ∙ rw (ne-eqb (answerOf s profile (recordWords * length row) .0) 0 (λ e. h (p .answer .number-is ∙ e)))
 
 -- a record of a row by value that was not lent is written to, at any text, profile and row: behind the records that are lent each is as it was
 pub rules-out-others-written : {s : List ℕ} {profile records : ℕ} {row : List Token} {n a : ℕ} {l : List Token} → Bridged s profile records row n a l → (j : ℕ) (d : Token) → getD l (records + j) d ≡ getD row (records + j) d

@@ -15,7 +15,8 @@ use Rattle.unicode.specs.Ranges.{flat}
 use Rattle.ucd.specs.Ucd.{xidStart, xidContinue, emoji}
 use Rattle.text.specs.Answer.{Answered, done, roomTooSmall, longest, checkText, checkCut}
 use Rattle.text.proofs.Checks.{cut-accepted}
-use Rattle.lexer.specs.Cut as cut
+use Rattle.cutters.specs.Records as definitions
+use Rattle.cutters.specs.Records.{recordWords}
 use Rattle.lexer.specs.Cut.{Letters, tokens}
 use Rattle.lexer.specs.Unicode.{unicode, lent}
 use Rattle.lexer.specs.Promises.{tokensOf, answerOf, Listed, run, front, TokenAt}
@@ -26,7 +27,7 @@ use Rattle.rows.specs.Steps.{recordAt, Judged, Filled}
 use Rattle.rows.specs.declared.Token.{Token}
 use Rattle.rows.proofs.Filling.{length-records}
 
-front-one : (l : List cut.Token) → front (take 1 l) ≡ front l
+front-one : (l : List definitions.Token) → front (take 1 l) ≡ front l
 unfolding front
 front-one [] = refl
 front-one (t ∷ ts) = refl
@@ -54,7 +55,7 @@ below-four s p =
     (λ a. by-test (ltb longest (length s)) (λ b. rw (a, b) (omega arith)) (λ b. by-test (ltb (validUpTo s) (length s)) (λ d. rw (a, b, d) (omega arith)) (λ d. rw (a, b, d) (omega arith))))
     (λ a. rw a (omega arith))
 
-thirds : (room : ℕ) → 3 * room / 3 ≡ room
+thirds : (room : ℕ) → recordWords * room / recordWords ≡ room
 thirds room = omega arith
 
 -- how many records are needed
@@ -135,9 +136,9 @@ module _ {s : List ℕ} {profile number also : ℕ} (row : List Token) (j : Judg
       by-test (eqb (checkCut s profile .0) done)
       (λ t. (
         eqb-true _ _ t,
-        by-test (ltb (3 * length row / 3) (need s profile))
+        by-test (ltb (recordWords * length row / recordWords) (need s profile))
             (λ b. let e : number ≡ roomTooSmall = rw (t, b) at (j .number-is) in absurd (omega (arith, e, z)))
-            (λ b. omega (arith, ltb-false (3 * length row / 3) (need s profile) b, thirds (length row))),
+            (λ b. omega (arith, ltb-false (recordWords * length row / recordWords) (need s profile) b, thirds (length row))),
       ))
       (λ t. let e : number ≡ checkCut s profile .0 = rw t at (j .number-is) in absurd (eqb-false _ _ t (sym e ∙ z)))
 
@@ -145,7 +146,7 @@ module _ {s : List ℕ} {profile number also : ℕ} (row : List Token) (j : Judg
   unfolding tokensOf
   judged-passed = (cut-accepted s profile (passes .0) .text .short, passes .1)
 
-  answer-is : answerOf s profile (3 * length row) ≡ (done, need s profile)
+  answer-is : answerOf s profile (recordWords * length row) ≡ (done, need s profile)
   unfolding answerOf
   answer-is = rw (eq-eqb _ _ (passes .0), thirds (length row), le-ltb (length row) (need s profile) (passes .1))
 

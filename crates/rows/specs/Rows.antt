@@ -8,29 +8,30 @@ use lib.Dec.{eqb}
 use lib.ListN.{length, take, drop}
 use Rattle.lists.specs.Over.{over}
 use Rattle.text.specs.Answer.{Answered, done}
-use Rattle.lexer.specs.Cut as cut
+use Rattle.cutters.specs.Records as definitions
+use Rattle.cutters.specs.Records.{recordWords}
 use Rattle.lexer.specs.Promises.{tokensOf, answerOf}
 use Rattle.rows.specs.declared.Token.{Token}
 
 -- the record of a token: its kind, its length in bytes, its suffix start
-abbrev pub recordOf : cut.Token → Token
+abbrev pub recordOf : definitions.Token → Token
 recordOf t = record { kind = t .kind; len = t .len; suffix = t .suffix }
 
-unfoldable pub records : List cut.Token → List Token
+unfoldable pub records : List definitions.Token → List Token
 records [] = []
 records (t ∷ ts) = recordOf t ∷ records ts
 
 -- the records of the tokens, and behind them what stood there; a refusal changes nothing
 unfoldable pub rowed : List ℕ → ℕ → List Token → List Token
 rowed s profile row =
-    cond (eqb (answerOf s profile (3 * length row) .0) done) (over (records (tokensOf profile s)) row) row
+    cond (eqb (answerOf s profile (recordWords * length row) .0) done) (over (records (tokensOf profile s)) row) row
 
--- the answer is that of `tokenize`, for a list of three words for each record of the row
+-- the answer is that of `tokenize`, for a list with the words of each record of the row
 pub record Rowed (s : List ℕ) (profile : ℕ) (row : List Token) (number also : ℕ) (row′ : List Token) : Type 0 where
-  pub answer : Answered (answerOf s profile (3 * length row)) number also
+  pub answer : Answered (answerOf s profile (recordWords * length row)) number also
   pub row-is : row′ ≡ rowed s profile row
 
--- ---- a row as flat words: record i is the words 3i to 3i + 2
+-- ---- a row as flat words, one record after the other
 unfoldable pub words : List Token → List ℕ
 words [] = []
 words (t ∷ ts) = t .kind ∷ t .len ∷ t .suffix ∷ words ts

@@ -6,15 +6,20 @@ use mathlib.Core.List.{List, _++_}
 use lib.ListN.{length, drop, set}
 use Rattle.unicode.specs.Text.{left}
 use Rattle.text.specs.Answer.{done}
+use Rattle.cutters.specs.Records.{recordWords}
 use Rattle.lexer.specs.Cut.{Letters, tokens}
 use Rattle.lexer.specs.Promises.{answerOf, tokensBy, front}
 use Rattle.rows.specs.Rows.{recordOf, records}
 use Rattle.rows.specs.declared.Token.{Token}
 
+-- the bytes that a record takes in a row: four for each word
+abbrev pub recordSize : ℕ
+recordSize = 4 * recordWords
+
 -- the checks: what is also returned is fixed where they refuse
 pub record Judged (s : List ℕ) (profile room number also : ℕ) : Type 0 where
-  pub number-is : number ≡ answerOf s profile (3 * room) .0
-  pub also-is : ((number ≡ done → ⊥) → also ≡ answerOf s profile (3 * room) .1)
+  pub number-is : number ≡ answerOf s profile (recordWords * room) .0
+  pub also-is : ((number ≡ done → ⊥) → also ≡ answerOf s profile (recordWords * room) .1)
 
 -- the record of the token at a place; where there is none, a record of noughts
 abbrev pub recordAt : Letters → ℕ → List ℕ → ℕ → Token

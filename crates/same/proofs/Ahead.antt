@@ -10,7 +10,8 @@ use lib.Seq.{drop-drop}
 use borrow.Author.Tests.{le-ltb}
 use Rattle.text.specs.Answer.{longest}
 use Rattle.lexer.specs.Kinds.{eof}
-use Rattle.lexer.specs.Cut.{Letters, Token}
+use Rattle.cutters.specs.Records.{Token}
+use Rattle.lexer.specs.Cut.{Letters}
 use Rattle.lexer.specs.Promises.{run, front, TokenAt, tokensBy}
 use Rattle.lexer.proofs.Whole.{one-start, one-end}
 use Rattle.tokens.specs.Members.{isCounted, memberOf, counted, membersBy}

@@ -12,7 +12,7 @@ use lib.Seq.{drop-drop, getD-drop}
 use borrow.Author.Tests.{eqb-true, eq-eqb, not-true, not-false}
 use Rattle.lists.proofs.Bools.{by-test, both}
 use Rattle.lexer.specs.Kinds.{eof}
-use Rattle.lexer.specs.Cut.{Token}
+use Rattle.cutters.specs.Records.{Token}
 use Rattle.tokens.specs.Members.{Member, membersBy}
 use Rattle.same.specs.Compare.{Sight, Compared, alike, agree, sights, endOf, same, different, partedBy, showing}
 use Rattle.same.specs.Steps.{memberAt, sightAt, membersFrom, sightsFrom, Ahead}

@@ -8,7 +8,7 @@ use mathlib.Core.List.{List, [], _∷_}
 use lib.ListN.{length, drop, getD}
 use lib.Seq.{drop-drop}
 use Rattle.lists.specs.All.{Each}
-use Rattle.lexer.specs.Cut.{Token}
+use Rattle.cutters.specs.Records.{Token}
 use Rattle.lexer.specs.Promises.{tokensOf}
 use Rattle.tokens.specs.Tiling.{Formed}
 use Rattle.tokens.proofs.Tiling.{tiles}

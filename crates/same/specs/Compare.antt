@@ -8,7 +8,7 @@ use lib.Dec.{eqb}
 use lib.ListN.{length, take, drop, getD}
 use Rattle.text.specs.Answer.{done, checkCut}
 use Rattle.lexer.specs.Kinds.{eof}
-use Rattle.lexer.specs.Cut.{Token}
+use Rattle.cutters.specs.Records.{Token}
 use Rattle.lexer.specs.Promises.{tokensOf}
 use Rattle.tokens.specs.Members.{Member, isCounted, membersBy}
 

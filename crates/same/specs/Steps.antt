@@ -5,7 +5,7 @@ use mathlib.Core.List.{List, [], _∷_}
 use Prim.Native.Nat.{ℕ, _-_, _≤_, _<_}
 use lib.ListN.{length, take, drop}
 use Rattle.lexer.specs.Kinds.{eof}
-use Rattle.lexer.specs.Cut.{Token}
+use Rattle.cutters.specs.Records.{Token}
 use Rattle.tokens.specs.Members.{Member, membersBy}
 use Rattle.same.specs.Compare.{Sight, sights}
 

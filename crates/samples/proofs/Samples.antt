@@ -11,6 +11,7 @@ use Rattle.unicode.specs.Utf8.{table, behind, begins, joined, readBy, first, ne
 use Rattle.unicode.specs.Text.{byteLength, skip}
 use Rattle.text.specs.Answer.{checkText, checkCut}
 use Rattle.letters.specs.Chars.{whitespace}
+use Rattle.cutters.specs.Records.{flatFrom}
 use Rattle.lexer.specs.Kinds.{marks, markIn}
 use Rattle.lexer.specs.Unicode.{unicode}
 use Rattle.lexer.specs.Promises.{tokensOf, answerOf, listed}
@@ -22,9 +23,9 @@ use Rattle.tokens.specs.Members.{isCounted, counted, membersBy, membersOf}
 use Rattle.renewal.specs.Key.{bodyLength, lowBytes, nextText, texts, encode, keyOf, keyOfText}
 use Rattle.renewal.specs.Promises.{answerOf as keyAnswer, keyed}
 use Rattle.samples.specs.Samples.{Sample, does, samples}
-use Rattle.lexer.specs.Cut.{notLf, isDigit, isHexDigit, block, slash, digits, exponent, exponentOf, point, fraction, based, number, isUnit, quoted, withoutLf, twice, quoteKind, agree, pound, name, word, annotated, hardware, identifier, numberSuffix, advance, nextToken, tokens, flat}
+use Rattle.lexer.specs.Cut.{notLf, isDigit, isHexDigit, block, slash, digits, exponent, exponentOf, point, fraction, based, number, isUnit, quoted, withoutLf, twice, quoteKind, agree, pound, name, word, annotated, hardware, identifier, numberSuffix, advance, nextToken, tokens}
 
 pub all-samples : Each (λ (x : Sample). does (x .call) ≡ (x .answer, x .after)) samples
-unfolding isCounted counted membersBy membersOf bodyLength lowBytes nextText flatten texts encode keyOf keyOfText keyAnswer keyed isSingle isRaw charactersShouldBeAscii toDigit hexDigit hexEscape firstDigit moreDigits codePoint closing braced unicodeEscape simple escape asciiCheck alone oneChar charOrByte items itemsOf flatItems bodyAnswer bodyListed pieces cut eat inTable xidStart xidContinue emoji table behind begins joined readBy first next chars width goodBytes validUpTo byteLength skip checkText checkCut whitespace marks markIn unicode tokensOf answerOf listed notLf isDigit isHexDigit block slash digits exponent exponentOf point fraction based number isUnit quoted all withoutLf twice quoteKind agree pound name word annotated hardware identifier numberSuffix advance nextToken tokens flat samples
+unfolding isCounted counted membersBy membersOf bodyLength lowBytes nextText flatten texts encode keyOf keyOfText keyAnswer keyed isSingle isRaw charactersShouldBeAscii toDigit hexDigit hexEscape firstDigit moreDigits codePoint closing braced unicodeEscape simple escape asciiCheck alone oneChar charOrByte items itemsOf flatItems bodyAnswer bodyListed pieces cut eat inTable xidStart xidContinue emoji table behind begins joined readBy first next chars width goodBytes validUpTo byteLength skip checkText checkCut whitespace marks markIn unicode tokensOf answerOf listed notLf isDigit isHexDigit block slash digits exponent exponentOf point fraction based number isUnit quoted all withoutLf twice quoteKind agree pound name word annotated hardware identifier numberSuffix advance nextToken tokens flatFrom samples
 all-samples =
     (refl, (refl, (refl, (refl, (refl, (refl, (refl, (refl, (refl, (refl, (refl, (refl, (refl, (refl, (refl, (refl, (refl, (refl, tt))))))))))))))))))

@@ -19,7 +19,8 @@ use Rattle.unicode.specs.Ranges.{inTable}
 use Rattle.ucd.specs.Ucd.{xidStart, xidContinue}
 use Rattle.letters.specs.Chars.{isWhitespace, whitespace}
 use Rattle.lexer.specs.Kinds.{ident, invalidIdent}
-use Rattle.lexer.specs.Cut.{Letters, Token, peek, notLf, agree, pragmaWord, wideEmoji, name, word, advance, nextToken, tokens, total}
+use Rattle.cutters.specs.Records.{Token, total}
+use Rattle.lexer.specs.Cut.{Letters, peek, notLf, agree, pragmaWord, wideEmoji, name, word, advance, nextToken, tokens}
 use Rattle.lexer.specs.Unicode.{unicode}
 use Rattle.lexer.specs.Promises.{tokensOf}
 use Rattle.lexer.proofs.Shapes.{name-part, tokens-nil}

@@ -6,7 +6,7 @@ use Prim.Native.Nat.{ℕ}
 use lib.Dec.{eqb}
 use lib.ListN.{take, drop}
 use Rattle.lexer.specs.Kinds.{lineComment, blockComment, whitespaceKind}
-use Rattle.lexer.specs.Cut.{Token}
+use Rattle.cutters.specs.Records.{Token}
 use Rattle.lexer.specs.Promises.{tokensOf}
 
 pub record Member : Type 0 where

@@ -8,7 +8,8 @@ use lib.Dec.{eqb}
 use lib.ListN.{length, take, drop}
 use Rattle.unicode.specs.Text.{skip}
 use Rattle.lexer.specs.Kinds.{ident, invalidIdent, pragma}
-use Rattle.lexer.specs.Cut.{Token, notLf, agree, pragmaWord, total}
+use Rattle.cutters.specs.Records.{Token, total}
+use Rattle.lexer.specs.Cut.{notLf, agree, pragmaWord}
 
 -- a bare pragma: an Ident or InvalidIdent whose bytes begin with `pragma`; s is the text from the token on
 abbrev pub bare : List ℕ → Token → Bool

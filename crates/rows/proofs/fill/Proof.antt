@@ -53,7 +53,7 @@ use Rattle.unicode.specs.Utf8.{chars}
 use Rattle.text.specs.Answer.{longest}
 use Rattle.lexer.specs.Cut.{Letters, tokens}
 use Rattle.lexer.specs.Unicode.{lent}
-use Rattle.rows.specs.Steps.{placeAfter, recordNo, rowAfter}
+use Rattle.rows.specs.Steps.{recordSize, placeAfter, recordNo, rowAfter}
 use Rattle.rows.specs.declared.Token.{Token}
 use Rattle.rows.proofs.Filling.{row-length, not-all, next-within, all-stored}
 use Rattle.rows.proofs.Token as T
@@ -113,7 +113,7 @@ abbrev tableTy : Ty
 tableTy = sliceTy (tyRef (named 2) imm (tyInt w32))
 
 -- ---- numbers
-place-fits : (i n : ℕ) → i < n → n * 12 < 2 ^ 63 → i * 12 < 2 ^ 64
+place-fits : (i n : ℕ) → i < n → n * recordSize < 2 ^ 63 → i * recordSize < 2 ^ 64
 place-fits i n h g = omega (arith, h, g)
 
 row-reach : (i n m : ℕ) → i < n → n ≤ m → i < m
@@ -291,7 +291,7 @@ module _ {M : Type 1} (𝓤 : URA M) (H : Heap 𝓤) (A : Atoms 𝓤) (W : Given
             rewrite ! 12 (λ (z : Val). ‵ (fat fullShare T′.mir l₉ 0 z)) (spelled w (is-tok t w e has)) refl $
             assigns ! (bin ! (load ! (from ! (stop !)) (look ! 16 refl)) (lit ! tt) (record { fits = place (under less) })) (from ! (stop !)) (store ! 10 refl (tt, record { fits = place (under less) })) $
             assigns ! (bin ! (load ! (from ! (fld ! refl (stop !))) (look-in ! 24 (sub ! 0 refl (whole !)))) (load ! (from ! (stop !)) (look ! 10 refl)) tt) (from ! (stop !)) (init ! 6 refl (tt, tt)) $
-            rewrite ! 6 (λ (k : ℕ). ‵ (fat fullShare tyPtr l₁₂ 0 (vptr b k))) (sym (place-is 12 o (i .0))) refl $
+            rewrite ! 6 (λ (k : ℕ). ‵ (fat fullShare tyPtr l₁₂ 0 (vptr b k))) (sym (place-is recordSize o (i .0))) refl $
             move ! (3 ∷ 4 ∷ 5 ∷ []) $ opens-slice ! tt T.the-row (zs (i .0)) b o $
             elem-out ! T.the-row (Is T.the-row) (shows 𝓤 H A T.the-row) (LL.vals T.the-type T′.the-laws) (LL.tells T.the-type T′.the-laws) fullShare (zs (i .0)) (i .0) t b o (reach (under less)) (λ _.
             -- [row[i]; what it owns; the others; the open borrow; obs; auth; the tokens of the tables and the text; what is shared; _12; …]
@@ -336,7 +336,7 @@ module _ {M : Type 1} (𝓤 : URA M) (H : Heap 𝓤) (A : Atoms 𝓤) (W : Given
             reach : i .0 < n → i .0 < length (zs (i .0))
             reach h = subst (λ (m : ℕ). i .0 < m) (sym (len (i .0))) (in-row h)
 
-            place : i .0 < n → i .0 * 12 < 2 ^ 64
+            place : i .0 < n → i .0 * recordSize < 2 ^ 64
             place h = place-fits (i .0) (length xs) (in-row h) (room .1)
 
             is-tok : (t : Token) (w : Val) → t ≡ tok (i .0) → Is T.the-row t (w ∷ []) → Is T.the-row (tok (i .0)) (w ∷ [])

@@ -51,6 +51,7 @@ use denote.Exit.{yes}
 use Rattle.text.specs.declared.Answer.{Answer}
 use Rattle.text.proofs.Answer as S
 use Rattle.text.proofs.Answer.Laws as S′
+use Rattle.rows.specs.Steps.{recordSize}
 use Rattle.rows.specs.Rows.{Rowed, Bridged}
 use Rattle.rows.specs.declared.Token.{Token}
 use Rattle.rows.proofs.Bridge.{lent-length, cut-length, bridged}
@@ -219,7 +220,7 @@ module _ {M : Type 1} (𝓤 : URA M) (H : Heap 𝓤) (A : Atoms 𝓤) (W : Given
 
         -- the records that are not lent
         abbrev Others : ℕ → ℕ → Fml
-        Others n j = cells (inMem T.the-row) (without n row) l₆ (at 0 12 j)
+        Others n j = cells (inMem T.the-row) (without n row) l₆ (at 0 recordSize j)
 
         -- the end: the array is back, at the machine value w
         leaves : (n : ℕ) (r : Answer) (u : Val) (zs : List Token) (w : Val) → Is S.the-row r (u ∷ []) → Is (Array T.the-row 64) zs (w ∷ []) → Bridged (ws .now) p k row (r .number) (r .also) zs →

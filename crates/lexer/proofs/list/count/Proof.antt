@@ -1,7 +1,9 @@
 use native.Mathlib.Omega.{arith}
+use Prim.Native.Nat.{_*_}
 use mathlib.Core.Path.{_≡_}
 use lib.ListN.{length}
 use Rattle.unicode.specs.Text.{left}
+use Rattle.cutters.specs.Records.{recordWords}
 use Rattle.lexer.specs.Cut.{tokens}
 use Rattle.lexer.specs.Unicode.{lent}
 use Rattle.lexer.proofs.Whole.{Counting, counting-none, count-add, count-on, count-less, count-end}
@@ -10,7 +12,7 @@ use Rattle.lexer.proofs.list.count.Statement.{statement}
 use Rattle.lexer.proofs.list.count.Tie as tie
 
 abbrev Inv-loop : tie.InvT-loop
-Inv-loop text profile start more emoji list₀ at₀ n₀ list at n = (length list ≡ 192) × Counting (lent start more emoji) profile text at n
+Inv-loop text profile start more emoji list₀ at₀ n₀ list at n = (length list ≡ 64 * recordWords) × Counting (lent start more emoji) profile text at n
 
 abbrev μ-loop : tie.MeasureT-loop
 μ-loop text profile start more emoji list₀ at₀ n₀ list at n = length (tokens (lent start more emoji) profile (left text at))

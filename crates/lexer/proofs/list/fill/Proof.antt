@@ -2,7 +2,7 @@ use Prim.Native.Nat.{_-_}
 use native.Mathlib.Omega.{arith}
 use Rattle.lexer.specs.Unicode.{lent}
 use Rattle.lexer.proofs.Advancing.{end-some, end-within, suffix-after, suffix-within}
-use Rattle.lexer.proofs.Whole.{Filling, filling-none, fill-three, fill-on, fill-full, fill-end}
+use Rattle.lexer.proofs.Whole.{Filling, filling-none, fill-room, fill-on, fill-full, fill-end}
 use borrow.Author.Needs.{needs}
 use Rattle.lexer.proofs.list.fill.Statement.{statement}
 use Rattle.lexer.proofs.list.fill.Tie as tie
@@ -35,7 +35,7 @@ mul-put : tie.Need-mul-put Inv-loop μ-loop
 mul-put c = search needs
 
 put-requires : tie.Need-put-requires Inv-loop μ-loop
-put-requires c κs = search (needs, fill-three)
+put-requires c κs = search (needs, fill-room)
 
 add-n : tie.Need-add-n Inv-loop μ-loop
 add-n c = search needs

@@ -1,9 +1,10 @@
-use Prim.Native.Nat.{_-_}
+use Prim.Native.Nat.{_-_, _*_}
 use native.Mathlib.Omega.{arith}
 use mathlib.Core.Path.{_≡_}
 use lib.ListN.{length}
 use Rattle.lexer.specs.Unicode.{lent}
 use Rattle.lexer.specs.Promises.{tokensBy}
+use Rattle.cutters.specs.Records.{recordWords}
 use Rattle.renewal.proofs.Walking.{Walking, walking-none}
 use Rattle.renewal.proofs.Keyable.{run-ready, run-on, run-less, run-done}
 use borrow.Author.Needs.{needs}
@@ -11,7 +12,7 @@ use Rattle.renewal.proofs.walk.walk.Statement.{statement}
 use Rattle.renewal.proofs.walk.walk.Tie as tie
 
 abbrev Inv-loop : tie.InvT-loop
-Inv-loop text profile write key₀ body start more emoji list₀ at₀ n₀ key list at n = (length list ≡ 192) × Walking (tokensBy (lent start more emoji) profile) text write key₀ at n key
+Inv-loop text profile write key₀ body start more emoji list₀ at₀ n₀ key list at n = (length list ≡ 64 * recordWords) × Walking (tokensBy (lent start more emoji) profile) text write key₀ at n key
 
 abbrev μ-loop : tie.MeasureT-loop
 μ-loop text profile write key₀ body start more emoji list₀ at₀ n₀ key list at n = length text - at
