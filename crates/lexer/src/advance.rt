@@ -20,7 +20,6 @@ use crate::words::pound;
 use unicode::utf8::decode;
 
 // A token: its kind, the place where its suffix starts (of a literal with none, its end; of all else, its own start), and its end.
-#[repr(C)]
 pub struct Piece {
     pub kind: u32,
     pub suffix: usize,

@@ -91,15 +91,15 @@ pub const DECIMAL: u32 = 2;
 
 pub const HEXADECIMAL: u32 = 3;
 
-// CONSECUTIVE: with two underscores side by side.
-pub const STR: u32 = 56;
+pub const STR_UNCLOSED: u32 = 56;
 
-pub const STR_TERMINATED: u32 = 57;
+pub const STR: u32 = 57;
 
-pub const BIT_STR: u32 = 58;
+pub const BIT_STR_UNCLOSED: u32 = 58;
 
-pub const BIT_STR_TERMINATED: u32 = 59;
+pub const BIT_STR: u32 = 59;
 
-pub const BIT_STR_CONSECUTIVE: u32 = 60;
+// With two underscores side by side.
+pub const BIT_STR_TWICE_UNCLOSED: u32 = 60;
 
-pub const BIT_STR_CONSECUTIVE_TERMINATED: u32 = 61;
+pub const BIT_STR_TWICE: u32 = 61;

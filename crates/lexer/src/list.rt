@@ -20,7 +20,6 @@ use ucd::tables;
 const RUN: usize = 64 * RECORD;
 
 // The place behind a run of tokens, and how many they are.
-#[repr(C)]
 pub struct Run {
     pub at: usize,
     pub count: usize,

@@ -108,19 +108,19 @@ fn quote_kind(closed: bool, bits: bool, twice: bool) -> u32
     if bits {
         if twice {
             if closed {
-                return kinds::BIT_STR_CONSECUTIVE_TERMINATED;
+                return kinds::BIT_STR_TWICE;
             }
-            return kinds::BIT_STR_CONSECUTIVE;
+            return kinds::BIT_STR_TWICE_UNCLOSED;
         }
         if closed {
-            return kinds::BIT_STR_TERMINATED;
+            return kinds::BIT_STR;
         }
-        return kinds::BIT_STR;
+        return kinds::BIT_STR_UNCLOSED;
     }
     if closed {
-        return kinds::STR_TERMINATED;
+        return kinds::STR;
     }
-    kinds::STR
+    kinds::STR_UNCLOSED
 }
 
 fn is_escape(text: &[u8], at: usize) -> bool

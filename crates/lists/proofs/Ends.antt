@@ -1,4 +1,4 @@
--- The laws of `specs/Ends.antt`: an end of an end is an end, and what is left behind a step is one.
+-- The laws of `Ends`: an end of an end is an end, and what is left behind a step is one.
 -- Assumes nothing.
 use Prim.Native.Nat.{ℕ, zero, suc, _≤_}
 use native.Mathlib.Omega.{arith}

@@ -5,7 +5,7 @@ use mathlib.Core.Path.{_≡_}
 use mathlib.Core.Bool.{Bool, true, false, not, cond, _&&_, _||_}
 use mathlib.Core.List.{List, [], _∷_, tail}
 use lib.Dec.{eqb, leb}
-use lib.ListN.{getD}
+use lib.ListN.{length, getD}
 use Rattle.lists.specs.All.{all}
 use Rattle.letters.specs.Chars.{isWhitespace}
 use Rattle.lexer.specs.Kinds.{lineComment, blockComment, unclosedComment, whitespaceKind, ident, hardwareIdent, invalidIdent, pragma, annotation, atSign, dollar, slashMark, unknown, marks, markIn, int, float, str, bitStr}
@@ -167,7 +167,7 @@ module _ (u : Letters) where
   act name l = nameActs l
   act emojiName l = cond (nextIs (goesOn (u .more) (u .emoji)) l) (eats false emojiName) (halts false invalidIdent)
   act (spelling bare n) l =
-      cond (eqb (peek l) (letter n)) (eats false (cond (leb 5 n) (line ofPragma) (spelling bare (suc n))))
+      cond (eqb (peek l) (letter n)) (eats false (cond (leb (length pragmaWord - 1) n) (line ofPragma) (spelling bare (suc n))))
       (cond bare (nameActs l) (halts false invalidIdent))
   act behindAt l = cond (u .start (peek l)) (lineActs ofAnnotation l) (halts false atSign)
   act behindDollar l = cond (nextIs (wideEmoji (u .emoji)) l) (eats false emojiName) (wireActs false l)

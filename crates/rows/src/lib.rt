@@ -132,7 +132,6 @@ pub fn tokenize_rows(text: &[u8], profile: u32, row: &mut [Token]) -> Answer
 // A row by value, for a caller that holds no lent slice of structs.
 pub type Row = [Token; 64];
 
-#[repr(C)]
 pub struct Rows {
     pub answer: Answer,
     pub row: Row,

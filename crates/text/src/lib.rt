@@ -28,7 +28,7 @@ pub const DEFAULT_PROFILE: u32 = 0;
 
 pub const PROFILES: u32 = 2;
 
-// The profile of a caller that names none.
+// That profile, by a promise.
 pub fn default_profile() -> u32
     ensures { λ r. ⌜ r ≡ defaultProfile ⌝ }
 {

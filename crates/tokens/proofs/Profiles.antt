@@ -32,16 +32,16 @@ pragma-agrees : (s : List ℕ) → agree pragmaWord (chars s) ≡ agree pragmaWo
 pragma-agrees s = agree-chars pragmaWord s (omega arith, (omega arith, (omega arith, (omega arith, (omega arith, (omega arith, tt))))))
 
 -- ---- where the word does not stand, the profile does not matter
-elsewhere : (u : Letters) (c : ℕ) (t : List ℕ) → eqb (agree pragmaWord (c ∷ t)) 6 ≡ false → advance u 1 c t ≡ advance u 0 c t
+elsewhere : (u : Letters) (c : ℕ) (t : List ℕ) → eqb (agree pragmaWord (c ∷ t)) (length pragmaWord) ≡ false → advance u 1 c t ≡ advance u 0 c t
 unfolding advance word
 elsewhere u c t h = rw h
 
 -- and no bare pragma stands there
-not-bare : (s : List ℕ) (t : Token) → eqb (agree pragmaWord (chars s)) 6 ≡ false → bare s t ≡ false
+not-bare : (s : List ℕ) (t : Token) → eqb (agree pragmaWord (chars s)) (length pragmaWord) ≡ false → bare s t ≡ false
 not-bare s t h =
     let n : agree pragmaWord (take (t .len) s) ≡ 6 → ⊥ =
-    λ e. eqb-false (agree pragmaWord (chars s)) 6 h (omega (arith, agree-take pragmaWord (t .len) s, pragma-agrees s, agree-most pragmaWord s)) in
-    rw (ne-eqb (agree pragmaWord (take (t .len) s)) 6 n) (and-false (eqb (t .kind) ident || eqb (t .kind) invalidIdent))
+    λ e. eqb-false (agree pragmaWord (chars s)) (length pragmaWord) h (omega (arith, agree-take pragmaWord (t .len) s, pragma-agrees s, agree-most pragmaWord s)) in
+    rw (ne-eqb (agree pragmaWord (take (t .len) s)) (length pragmaWord) n) (and-false (eqb (t .kind) ident || eqb (t .kind) invalidIdent))
 
 -- ---- where it stands: its first letter begins an identifier, and the others continue it
 p-space : isWhitespace 0x70 ≡ false
@@ -97,7 +97,7 @@ module _ (r : List ℕ) where
       let n = byteLength (0x70 ∷ letters) - byteLength (name (unicode .more) (unicode .emoji) r .1) in
       let six : agree pragmaWord s ≡ 6 = sym (pragma-agrees s) ∙ ap (agree pragmaWord) e in
       let h : agree pragmaWord (take n s) ≡ 6 = omega (arith, agree-take pragmaWord n s, zero-long) in
-      rw (zero-is, name-kind) (eq-eqb (agree pragmaWord (take n s)) 6 h)
+      rw (zero-is, name-kind) (eq-eqb (agree pragmaWord (take n s)) (length pragmaWord) h)
 
   -- under profile 1 a Pragma of the line
   one-is : (s : List ℕ) → chars s ≡ 0x70 ∷ letters → nextToken unicode 1 0x70 letters .0 ≡ pragmaLine s
@@ -151,9 +151,9 @@ step a s ih =
     let c = first (a ∷ s) .0 in
     let t = chars (drop (first (a ∷ s) .1) (a ∷ s)) in
     let v : chars (a ∷ s) ≡ c ∷ t = chars-first (a ∷ s) (omega arith) in
-    by-test (eqb (agree pragmaWord (c ∷ t)) 6)
+    by-test (eqb (agree pragmaWord (c ∷ t)) (length pragmaWord))
     (λ y.
-    let e : c ∷ t ≡ pragmaWord ++ drop 6 (c ∷ t) = agree-all pragmaWord (c ∷ t) (eqb-true (agree pragmaWord (c ∷ t)) 6 y) in
+    let e : c ∷ t ≡ pragmaWord ++ drop 6 (c ∷ t) = agree-all pragmaWord (c ∷ t) (eqb-true (agree pragmaWord (c ∷ t)) (length pragmaWord) y) in
     let r = drop 6 (c ∷ t) in
     here-parting (a ∷ s) (nextToken unicode 0 0x70 (letters r) .0) _ _ (zero-bare r (a ∷ s) (v ∙ e))
     (tokens-first unicode 0 0x70 (letters r) (a ∷ s) (v ∙ e))
@@ -163,7 +163,7 @@ step a s ih =
     let same : nextToken unicode 1 c t .0 ≡ k = rw (elsewhere unicode c t n) in
     let one : tokensOf 1 (a ∷ s) ≡ k ∷ tokensOf 1 (drop (k .len) (a ∷ s)) =
     tokens-first unicode 1 c t (a ∷ s) v ∙ ap (λ (x : Token). x ∷ tokensOf 1 (drop (x .len) (a ∷ s))) same in
-    later (a ∷ s) k (not-bare (a ∷ s) k (ap (λ (l : List ℕ). eqb (agree pragmaWord l) 6) v ∙ n)) (tokens-first unicode 0 c t (a ∷ s) v) one
+    later (a ∷ s) k (not-bare (a ∷ s) k (ap (λ (l : List ℕ). eqb (agree pragmaWord l) (length pragmaWord)) v ∙ n)) (tokens-first unicode 0 c t (a ∷ s) v) one
     (ih (drop (k .len) (a ∷ s)) (omega (arith, length-drop (k .len) (a ∷ s), first-some unicode 0 c t))))
 
 no-tokens : (profile : ℕ) → tokensOf profile [] ≡ []

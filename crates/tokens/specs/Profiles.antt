@@ -13,7 +13,7 @@ use Rattle.lexer.specs.Cut.{notLf, agree, pragmaWord}
 
 -- a bare pragma: an Ident or InvalidIdent whose bytes begin with `pragma`; s is the text from the token on
 abbrev pub bare : List ℕ → Token → Bool
-bare s t = (eqb (t .kind) ident || eqb (t .kind) invalidIdent) && eqb (agree pragmaWord (take (t .len) s)) 6
+bare s t = (eqb (t .kind) ident || eqb (t .kind) invalidIdent) && eqb (agree pragmaWord (take (t .len) s)) (length pragmaWord)
 
 -- one is among the tokens that s begins with
 abbrev pub bareIn : List ℕ → List Token → Bool

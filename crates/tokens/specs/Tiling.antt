@@ -16,6 +16,6 @@ pub record Formed (t : Token) : Type 0 where
   pub literal : (isLiteral (t .kind) ≡ true → (1 ≤ t .suffix) × (t .suffix ≤ t .len))
 
 -- the tokens of a text of so many bytes tile it
-pub record Tiles (ts : List Token) (bytes : ℕ) : Type 0 where
+pub record Tiles (ts : List Token) (size : ℕ) : Type 0 where
   pub each : Each Formed ts
-  pub all : total ts ≡ bytes
+  pub all : total ts ≡ size
