@@ -13,7 +13,6 @@ use crate::tasks::lent;
 use crate::tasks::shown;
 use crate::words::Asked;
 use cutters::RECORD;
-use cutters::RECORD;
 use rows::Row;
 use rows::Token;
 use rows::rows_of;

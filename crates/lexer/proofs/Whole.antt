@@ -4,6 +4,7 @@ use Prim.Native.Nat.{ℕ, suc, _+_, _-_, _*_, _/_, _≤_, _<_, max}
 use native.Mathlib.Decide.{decLt}
 use native.Mathlib.Omega.{arith}
 use mathlib.Core.Path.{_≡_, refl, ap, sym, _∙_}
+use mathlib.Core.Bool.{true}
 use mathlib.Core.List.{List, [], _∷_, _++_}
 use lib.ListN.{length, drop, getD, length-take, length-drop, drop-of-length-le}
 use lib.Seq.{sets, length-sets, take-all, take-nil}
@@ -16,7 +17,7 @@ use Rattle.lists.proofs.Store.{stored-front}
 use Rattle.unicode.specs.Utf8.{next, chars}
 use Rattle.unicode.specs.Text.{byteLength, left}
 use Rattle.unicode.proofs.Text.{point-at, left-end, between, bytes-chars}
-use Rattle.text.specs.Answer.{Answered, done, longest, checkCut}
+use Rattle.text.specs.Answer.{Answered, done, longest, knownProfile, checkCut}
 use Rattle.text.specs.Steps.{Entered}
 use Rattle.text.proofs.Room as room
 use Rattle.text.proofs.Checks.{cut-accepted}
@@ -25,12 +26,12 @@ use Rattle.cutters.proofs.Records.{length-words, length-flat}
 use Rattle.lexer.specs.Cut.{Letters, advanceToken, nextToken, tokens}
 use Rattle.lexer.specs.Unicode.{unicode}
 use Rattle.lexer.specs.Steps.{Cuts, Advanced, Filled, StoredTokens, runFrom}
-use Rattle.lexer.specs.Promises.{tokensOf, answerOf, listed, Listed, run, CutRun, front, TokenAt}
+use Rattle.lexer.specs.Promises.{tokens3, tokensOf, answerOf, listed, Listed, run, CutRun, front, TokenAt, tokensBy}
 use Rattle.lexer.proofs.Shapes.{tokens-nil, tokens-cons}
 
 module _ (u : Letters) (profile : ℕ) where
   -- ---- no more records than bytes
-  pub few-tokens : (s : List ℕ) → length (tokens u profile (chars s)) ≤ length s
+  pub few-tokens : (s : List ℕ) → length (tokensBy u profile s) ≤ length s
   unfolding tokens chars
   few-tokens s = omega (arith, cut-few (nextToken u profile) (chars s), cut-few next s)
 
@@ -44,14 +45,14 @@ module _ (u : Letters) (profile : ℕ) where
 
   -- the first token at a place before the end
   pub tokens-at : {s : List ℕ} {at kind suffixAt end : ℕ} → at < length s → Cuts u profile s at kind suffixAt end →
-      tokens u profile (left s at) ≡ record { kind = kind; len = end - at; suffix = suffixAt - at } ∷ tokens u profile (left s end)
+      tokensBy u profile (drop at s) ≡ record { kind = kind; len = end - at; suffix = suffixAt - at } ∷ tokensBy u profile (drop end s)
   tokens-at {s} {at} {kind} {suffixAt} {end} h a =
       let c = point-at s at h in
-      let q : tokens u profile (left s at) ≡ record-of (left s at) ∷ tokens u profile (advanceToken u profile (left s at) .rest) = (rw (c .view) (tokens-step _ _)) in
+      let q : tokensBy u profile (drop at s) ≡ record-of (left s at) ∷ tokens u profile (advanceToken u profile (left s at) .rest) = (rw (c .view) (tokens-step _ _)) in
       q ∙ rw (← a .kind-is, between (omega arith) (a .end-place), between (omega arith) (a .suffix-place), ← a .end-place .there)
 
   -- there is one, of at least one byte
-  pub tokens-some : (s : List ℕ) (at : ℕ) → at < length s → 1 ≤ length (tokens u profile (left s at))
+  pub tokens-some : (s : List ℕ) (at : ℕ) → at < length s → 1 ≤ length (tokensBy u profile (drop at s))
   tokens-some s at h = let c = point-at s at h in rw (c .view, tokens-cons u profile) (omega arith)
 
 -- ---- a run of tokens: to go on from here comes to the same
@@ -61,7 +62,7 @@ pub record Filling (u : Letters) (profile : ℕ) (s : List ℕ) (from : ℕ) (li
   pub long : length list ≡ length list₀
   pub count : n + length (runFrom u profile s at (room - n)) ≡ length (runFrom u profile s from room)
   pub place : at + total (runFrom u profile s at (room - n)) ≡ from + total (runFrom u profile s from room)
-  pub rest : drop (room - n) (tokens u profile (left s at)) ≡ drop room (tokens u profile (left s from))
+  pub rest : drop (room - n) (tokensBy u profile (drop at s)) ≡ drop room (tokensBy u profile (drop from s))
   pub same : sets list (recordWords * n) (flatFrom s at (runFrom u profile s at (room - n))) ≡ sets list₀ 0 (flatFrom s from (runFrom u profile s from room))
 
 pub filling-none : (u : Letters) (profile : ℕ) (s : List ℕ) (from : ℕ) (list : List ℕ) {room : ℕ} → room ≡ length list / recordWords → Filling u profile s from list room from 0 list
@@ -78,16 +79,16 @@ module _ {u : Letters} {profile : ℕ} {s list₀ list : List ℕ} {from room at
     unfolding flatFrom
     fill-on v e f =
         let cuts = a .before-end h in
-        let ts = tokens u profile (left s end) in
+        let ts = tokensBy u profile (drop end s) in
         let t : Token = record { kind = kind; len = end - at; suffix = suffixAt - at } in
-        let view : tokens u profile (left s at) ≡ t ∷ ts = tokens-at u profile h cuts in
+        let view : tokensBy u profile (drop at s) ≡ t ∷ ts = tokens-at u profile h cuts in
         let less : room - n ≡ suc (room - n′) = omega arith in
         let front : runFrom u profile s at (room - n) ≡ t ∷ runFrom u profile s end (room - n′) = rw (less, view) in
         let W = wordsOf s at t in
         let m : recordWords * n′ ≡ k + length W = omega (arith, length-words s at t) in
         let there : at + t .len ≡ end = omega (arith, cuts .some) in
         let rest = runFrom u profile s end (room - n′) in
-        let far : drop (room - n) (tokens u profile (left s at)) ≡ drop (room - n′) ts = rw (less, view) in
+        let far : drop (room - n) (tokensBy u profile (drop at s)) ≡ drop (room - n′) ts = rw (less, view) in
         let g : sets list k (flatFrom s at (runFrom u profile s at (room - n))) ≡ sets list₀ 0 (flatFrom s from (runFrom u profile s from room)) = rw v (w .same) in
         let l : length list′ ≡ length list = ap length e ∙ length-sets list k W in
         let f : flatFrom s at (runFrom u profile s at (room - n)) ≡ W ++ flatFrom s end rest = ap (flatFrom s at) front ∙ ap (λ (i : ℕ). W ++ flatFrom s i rest) there in
@@ -102,7 +103,7 @@ module _ {u : Letters} {profile : ℕ} {s list₀ list : List ℕ} {from room at
         }
 
   -- where nothing is left to cut, all is done
-  fill-done : {count : ℕ} → runFrom u profile s at (room - n) ≡ [] → drop (room - n) (tokens u profile (left s at)) ≡ tokens u profile (left s at) → count ≡ n → Filled u profile s from list₀ at count list
+  fill-done : {count : ℕ} → runFrom u profile s at (room - n) ≡ [] → drop (room - n) (tokensBy u profile (drop at s)) ≡ tokensBy u profile (drop at s) → count ≡ n → Filled u profile s from list₀ at count list
   unfolding flatFrom
   fill-done {count} z k e =
       let r = w .full in
@@ -118,7 +119,7 @@ module _ {u : Letters} {profile : ℕ} {s list₀ list : List ℕ} {from room at
 
   pub fill-end : {count : ℕ} → length s ≤ at → count ≡ n → Filled u profile s from list₀ at count list
   fill-end h e =
-      let z : tokens u profile (left s at) ≡ [] = ap (tokens u profile) (left-end s at h) ∙ tokens-nil u profile in
+      let z : tokensBy u profile (drop at s) ≡ [] = ap (tokens u profile) (left-end s at h) ∙ tokens-nil u profile in
       fill-done (rw z (take-nil (room - n))) (rw z (drop-of-length-le [] {i = room - n} (omega arith))) e
 
 -- ---- the same for every length of text
@@ -135,7 +136,7 @@ module _ {u : Letters} {profile : ℕ} {s list list′ : List ℕ} {from at coun
       let t = le-ltb longest (length s) h in
       let room = length list / recordWords in
       let n = length-flat s from (runFrom u profile s from room) in
-      let few = length-take room (tokens u profile (left s from)) in
+      let few = length-take room (tokensBy u profile (drop from s)) in
       record {
         reached = rw t (a ∙ f .reached);
         many = rw t (c ∙ f .many);
@@ -144,44 +145,49 @@ module _ {u : Letters} {profile : ℕ} {s list list′ : List ℕ} {from at coun
 
 -- ---- the count, by runs
 pub record Counting (u : Letters) (profile : ℕ) (s : List ℕ) (at n : ℕ) : Type 0 where
-  pub sum : n + length (tokens u profile (left s at)) ≡ length (tokens u profile (chars s))
+  pub sum : n + length (tokensBy u profile (drop at s)) ≡ length (tokensBy u profile s)
 
 pub counting-none : (u : Letters) (profile : ℕ) (s : List ℕ) → Counting u profile s 0 0
 counting-none u profile s = record { sum = omega arith }
 
 module _ {u : Letters} {profile : ℕ} {s : List ℕ} {at n : ℕ} (w : Counting u profile s at n) where
-  pub count-end : length s ≤ at → n ≡ length (tokens u profile (chars s))
+  pub count-end : length s ≤ at → n ≡ length (tokensBy u profile s)
   count-end h =
-      let z : tokens u profile (left s at) ≡ [] = ap (tokens u profile) (left-end s at h) ∙ tokens-nil u profile in
+      let z : tokensBy u profile (drop at s) ≡ [] = ap (tokens u profile) (left-end s at h) ∙ tokens-nil u profile in
       omega (arith, w .sum, ap length z)
 
   module _ {list list′ : List ℕ} {at′ k : ℕ} (f : Filled u profile s at list at′ k list′) where
     pub count-add : n + k ≤ length s
-    count-add = omega (arith, w .sum, f .many, length-take (length list / recordWords) (tokens u profile (left s at)), few-tokens u profile s)
+    count-add = omega (arith, w .sum, f .many, length-take (length list / recordWords) (tokensBy u profile (drop at s)), few-tokens u profile s)
 
     pub count-on : {n′ : ℕ} → n′ ≡ n + k → Counting u profile s at′ n′
     count-on e =
-        let T = tokens u profile (left s at) in
+        let T = tokensBy u profile (drop at s) in
         record { sum = omega (arith, w .sum, f .many, ap length (f .rest), length-take (length list / recordWords) T, length-drop (length list / recordWords) T) }
 
-    pub count-less : length list ≡ 64 * recordWords → at < length s → length (tokens u profile (left s at′)) < length (tokens u profile (left s at))
+    pub count-less : length list ≡ 64 * recordWords → at < length s → length (tokensBy u profile (drop at′ s)) < length (tokensBy u profile (drop at s))
     count-less r h =
-        let T = tokens u profile (left s at) in
+        let T = tokensBy u profile (drop at s) in
         omega (arith, ap length (f .rest), length-drop (length list / recordWords) T, tokens-some u profile s at h)
 
 -- ---- the answer of a text that passed the checks
 module _ {u : Letters} {profile : ℕ} {s list list′ : List ℕ} {number also : ℕ} where
-  stored : {at n : ℕ} → Filled u profile s 0 list at n list′ → length (tokens u profile (chars s)) ≤ length list / recordWords → number ≡ done → also ≡ n → StoredTokens u profile s list number also list′
+  stored : {at n : ℕ} → Filled u profile s 0 list at n list′ → length (tokensBy u profile s) ≤ length list / recordWords → number ≡ done → also ≡ n → StoredTokens u profile s list number also list′
   stored w l k a =
-      let T = tokens u profile (chars s) in
+      let T = tokensBy u profile s in
       let e : runFrom u profile s 0 (length list / recordWords) ≡ T = take-all (length list / recordWords) T l in
       room.stored-all (w .many ∙ ap length e) (omega (arith, w .many, ap length e)) (omega (arith, length-flat s 0 T)) (w .words ∙ ap (λ (l : List Token). sets list 0 (flatFrom s 0 l)) e) k a
 
   pub stored-all : {at n : ℕ} → Filled u profile s 0 list at n list′ → length s ≤ length list / recordWords → number ≡ done → also ≡ n → StoredTokens u profile s list number also list′
   stored-all w l = stored w (omega (arith, few-tokens u profile s))
 
-  pub stored-counted : {at n m : ℕ} → Filled u profile s 0 list at n list′ → m ≡ length (tokens u profile (chars s)) → m ≤ length list / recordWords → number ≡ done → also ≡ n → StoredTokens u profile s list number also list′
+  pub stored-counted : {at n m : ℕ} → Filled u profile s 0 list at n list′ → m ≡ length (tokensBy u profile s) → m ≤ length list / recordWords → number ≡ done → also ≡ n → StoredTokens u profile s list number also list′
   stored-counted w c l = stored w (omega arith)
+
+-- ---- under the profiles of OpenQASM 3 the tokens are its own
+pub known3 : (profile : ℕ) (s : List ℕ) → knownProfile profile ≡ true → tokensOf profile s ≡ tokens3 profile s
+unfolding tokensOf
+known3 profile s h = refl
 
 -- ---- the whole
 listed-by : {s list list′ : List ℕ} {profile number also : ℕ} → Entered (checkCut s profile) (length list / recordWords) (length (tokensOf profile s)) (flatFrom s 0 (tokensOf profile s)) list number also list′ → Listed s profile list number also list′
@@ -192,7 +198,7 @@ pub listed-refused : {s list list′ : List ℕ} {profile number also : ℕ} →
 listed-refused a n e = listed-by (room.refused a n e)
 
 pub listed-done : {s list list′ : List ℕ} {profile n₀ a₀ number also : ℕ} → Answered (checkCut s profile) n₀ a₀ → n₀ ≡ done → StoredTokens unicode profile s list number also list′ → Listed s profile list number also list′
-unfolding tokensOf
+unfolding tokensOf tokens3
 listed-done c z r = listed-by (room.passed c z r)
 
 pub cut-short : (s : List ℕ) (profile : ℕ) {n a : ℕ} → Answered (checkCut s profile) n a → n ≡ done → length s ≤ longest
@@ -215,7 +221,7 @@ module _ (u : Letters) (profile : ℕ) (s : List ℕ) (at : ℕ) where
 
   one-few : length one ≤ 1
   unfolding run
-  one-few = by-test (ltb longest (length s)) (λ t. rw t (omega arith)) (λ t. rw t (omega (arith, length-take 1 (tokens u profile (left s at)))))
+  one-few = by-test (ltb longest (length s)) (λ t. rw t (omega arith)) (λ t. rw t (omega (arith, length-take 1 (tokensBy u profile (drop at s)))))
 
   -- a token stands within its text
   pub one-within : (at + front one .suffix ≤ max at (length s)) × (at + front one .len ≤ max at (length s))

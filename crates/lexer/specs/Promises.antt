@@ -5,10 +5,9 @@ use mathlib.Core.Path.{_≡_}
 use mathlib.Core.Bool.{cond}
 use mathlib.Core.List.{List, [], _∷_}
 use lib.Dec.{eqb, ltb}
-use lib.ListN.{length, take}
+use lib.ListN.{length, take, drop}
 use Rattle.lists.specs.Over.{over}
 use Rattle.unicode.specs.Utf8.{chars}
-use Rattle.unicode.specs.Text.{left}
 use Rattle.text.specs.Answer.{Answered, done, longest, checkText, checkCut, checkRoom, _andThen_}
 use Rattle.letters.specs.Chars.{isIdent}
 use Rattle.lexer.specs.Kinds.{eof}
@@ -16,12 +15,16 @@ use Rattle.cutters.specs.Records.{Token, total, recordWords, flatFrom}
 use Rattle.lexer.specs.Cut.{Letters, tokens}
 use Rattle.lexer.specs.Unicode.{unicode}
 
--- the tokens of a text, over any letters, and over Unicode's
+-- the tokens of a text in OpenQASM 3, over any letters, and over Unicode's; what is not 1 cuts as 0 does
 abbrev pub tokensBy : Letters → ℕ → List ℕ → List Token
 tokensBy u profile s = tokens u profile (chars s)
 
+unfoldable pub tokens3 : ℕ → List ℕ → List Token
+tokens3 profile s = tokensBy unicode profile s
+
+-- and by its profile
 unfoldable pub tokensOf : ℕ → List ℕ → List Token
-tokensOf profile s = tokensBy unicode profile s
+tokensOf profile s = tokens3 profile s
 
 -- the number and what is also returned, for a list of so many words
 unfoldable pub answerOf : List ℕ → ℕ → ℕ → ℕ × ℕ
@@ -38,7 +41,7 @@ pub record Listed (s : List ℕ) (profile : ℕ) (list : List ℕ) (number also 
 
 -- the tokens from a place on, as many as there is room for; of a text of more than 4,294,967,295 bytes, none
 unfoldable pub run : Letters → ℕ → List ℕ → ℕ → ℕ → List Token
-run u profile s from room = cond (ltb longest (length s)) [] (take room (tokens u profile (left s from)))
+run u profile s from room = cond (ltb longest (length s)) [] (take room (tokensBy u profile (drop from s)))
 
 -- what `cut_run` answers and leaves: the place behind them, how many they are; their words, and behind them what stood there
 pub record CutRun (u : Letters) (profile : ℕ) (s : List ℕ) (from : ℕ) (list : List ℕ) (at count : ℕ) (list′ : List ℕ) : Type 0 where

@@ -15,7 +15,7 @@ use Rattle.ucd.specs.Properties.{asciiStart}
 use Rattle.letters.specs.Chars.{isWhitespace}
 use Rattle.lexer.specs.Kinds.{eof}
 use Rattle.cutters.specs.Records.{Token, total, recordWords, flatFrom}
-use Rattle.lexer.specs.Cut.{Letters, agree, isBit, number, identifier, numberSuffix, quoted, quoteKind, advanceToken, tokens}
+use Rattle.lexer.specs.Cut.{Letters, agree, isBit, number, identifier, numberSuffix, quoted, quoteKind, advanceToken}
 use Rattle.lexer.specs.Promises.{tokensBy}
 
 -- a kind or a flag, and a place, by a definition that gives it and what is left
@@ -99,13 +99,13 @@ pub record Advanced (u : Letters) (profile : ℕ) (s : List ℕ) (at kind suffix
 
 -- ---- a run of tokens, of a text that is not too long
 abbrev pub runFrom : Letters → ℕ → List ℕ → ℕ → ℕ → List Token
-runFrom u profile s from room = take room (tokens u profile (left s from))
+runFrom u profile s from room = take room (tokensBy u profile (drop from s))
 
 -- how many they are, where they end and what is left there, and the list with their words
 pub record Filled (u : Letters) (profile : ℕ) (s : List ℕ) (from : ℕ) (list : List ℕ) (at count : ℕ) (list′ : List ℕ) : Type 0 where
   pub many : count ≡ length (runFrom u profile s from (length list / recordWords))
   pub reached : at ≡ from + total (runFrom u profile s from (length list / recordWords))
-  pub rest : tokens u profile (left s at) ≡ drop (length list / recordWords) (tokens u profile (left s from))
+  pub rest : tokensBy u profile (drop at s) ≡ drop (length list / recordWords) (tokensBy u profile (drop from s))
   pub words : list′ ≡ sets list 0 (flatFrom s from (runFrom u profile s from (length list / recordWords)))
 
 -- the answer for a text that passed the checks, and the list

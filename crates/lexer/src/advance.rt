@@ -17,14 +17,8 @@ use crate::words::annotation;
 use crate::words::hardware_ident;
 use crate::words::ident_or_unknown_prefix;
 use crate::words::pound;
+use cutters::Piece;
 use unicode::utf8::decode;
-
-// A token: its kind, the place where its suffix starts (of a literal with none, its end; of all else, its own start), and its end.
-pub struct Piece {
-    pub kind: u32,
-    pub suffix: usize,
-    pub end: usize,
-}
 
 // A token that is no literal: its suffix is told at its own start.
 fn plain(at: usize, kind: u32, end: Cursor) -> Piece

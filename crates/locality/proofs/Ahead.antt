@@ -11,7 +11,7 @@ use Rattle.unicode.proofs.Valid.{width-some, read-back, well-formed-encoded, en
 use Rattle.cutters.specs.Records.{Token, total}
 use Rattle.lexer.specs.Cut.{Letters, nextToken, tokens}
 use Rattle.lexer.specs.Unicode.{unicode}
-use Rattle.lexer.specs.Promises.{tokensOf}
+use Rattle.lexer.specs.Promises.{tokens3}
 use Rattle.locality.specs.Phases.{act, Usual}
 use Rattle.locality.proofs.Phases.{two, ends}
 use Rattle.locality.proofs.Swap.{swap-two}
@@ -61,9 +61,9 @@ module _ (profile : ℕ) where
 
   -- TWO WHOLE CHARACTERS BEHIND: where tokens p of a text take the bytes a, and behind these stand the bytes d of two whole characters or more, then
   -- p are the first tokens of every text that begins with a and d, whatever bytes r′ stand behind these, and the rest are the tokens from d on
-  pub two-behind : (a d r r′ : List ℕ) (p q : List Token) → WellFormed a → WellFormed d → 2 ≤ length (chars d) → tokensOf profile (a ++ (d ++ r)) ≡ p ++ q → total p ≡ length a →
-      tokensOf profile (a ++ (d ++ r′)) ≡ p ++ tokensOf profile (d ++ r′)
-  unfolding tokensOf
+  pub two-behind : (a d r r′ : List ℕ) (p q : List Token) → WellFormed a → WellFormed d → 2 ≤ length (chars d) → tokens3 profile (a ++ (d ++ r)) ≡ p ++ q → total p ≡ length a →
+      tokens3 profile (a ++ (d ++ r′)) ≡ p ++ tokens3 profile (d ++ r′)
+  unfolding tokens3
   two-behind a d r r′ p q f g n h m =
       let A = well-formed-encoded a f in
       let D = well-formed-encoded d g in

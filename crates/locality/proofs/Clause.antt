@@ -20,11 +20,11 @@ use Rattle.letters.specs.Chars.{isWhitespace, whitespace}
 use Rattle.cutters.specs.Records.{Token, total}
 use Rattle.lexer.specs.Cut.{Letters, advance, nextToken, tokens}
 use Rattle.lexer.specs.Unicode.{unicode}
-use Rattle.lexer.specs.Promises.{tokensOf}
+use Rattle.lexer.specs.Promises.{tokens3}
 use Rattle.tokens.specs.Tiling.{Formed}
 use Rattle.tokens.proofs.Tiling.{tiles}
 use Rattle.locality.specs.Phases.{Usual}
-use Rattle.tokens.specs.Members.{isCounted, membersOf}
+use Rattle.tokens.specs.Members.{isCounted, members3}
 use Rattle.locality.specs.Newline.{noneCount, Run, withNewline}
 use Rattle.locality.proofs.Phases.{ends}
 use Rattle.locality.proofs.Newline.{NoUnit}
@@ -111,7 +111,7 @@ new-scalars x y r h =
 module _ (profile : ℕ) where
   clause-bytes : {i w : List Item} {l m r : List ℕ} (from to : ℕ) → Cuts unicode profile i l m → Cuts unicode profile w m r → 1 ≤ length (toks w) →
       noneCount (toks w) ≡ true → all isScalar l ≡ true → from ≡ total (toks i) → to ≡ total (toks i) + total (toks w) →
-      WellFormed (withNewline (encodeAll l) from to) × (membersOf profile (withNewline (encodeAll l) from to) ≡ membersOf profile (encodeAll l))
+      WellFormed (withNewline (encodeAll l) from to) × (members3 profile (withNewline (encodeAll l) from to) ≡ members3 profile (encodeAll l))
   clause-bytes {i} {w} {l} {m} {r} from to a b n h v e f =
       let j = whole unicode profile r in
       let o = newline-chars unicode unicode-usual profile a b n h (j .cuts) in
@@ -127,8 +127,8 @@ module _ (profile : ℕ) where
 
   -- THE NEWLINE CLAUSE: one newline in place of any unbroken run of one or more uncounted tokens leaves the counted tokens as they are,
   -- one by one, with kind, length, suffix start and bytes; and the new text is well-formed as the old one is
-  pub newline-clause : {s : List ℕ} {from to : ℕ} → WellFormed s → Run profile s from to → WellFormed (withNewline s from to) × (membersOf profile (withNewline s from to) ≡ membersOf profile s)
-  unfolding tokensOf
+  pub newline-clause : {s : List ℕ} {from to : ℕ} → WellFormed s → Run (tokens3 profile) s from to → WellFormed (withNewline s from to) × (members3 profile (withNewline s from to) ≡ members3 profile s)
+  unfolding tokens3
   newline-clause {s} {from} {to} f r =
       let e = well-formed-encoded s f in
       let v : tokens unicode profile (e .of) ≡ r .before ++ (r .run ++ r .behind) = ap (tokens unicode profile) (sym (ap chars (e .same) ∙ read-all (e .of) (e .scalars))) ∙ r .is in
@@ -153,13 +153,13 @@ total-some : (a b : List Token) → Each Formed (a ++ b) → 1 ≤ length a → 
 total-some [] b e n = absurd (omega arith)
 total-some (t ∷ a) b e n = omega (arith, e .0 .some)
 
-pub run-places : (profile : ℕ) {s : List ℕ} {from to : ℕ} → Run profile s from to → (from < to) × (to ≤ length s)
+pub run-places : (profile : ℕ) {s : List ℕ} {from to : ℕ} → Run (tokens3 profile) s from to → (from < to) × (to ≤ length s)
 run-places profile {s} {from} {to} r =
     let t = rw (r .is) at (tiles profile s) in
     let n = total-some (r .run) (r .behind) (each-behind (r .before) (r .run ++ r .behind) (t .each)) (r .some) in
     (omega (arith, r .starts, r .ends), omega (arith, r .ends, t .all, total-join (r .before) (r .run ++ r .behind), total-join (r .run) (r .behind)))
 
-pub newline-shorter : (profile : ℕ) {s : List ℕ} {from to : ℕ} → Run profile s from to → length (withNewline s from to) ≤ length s
+pub newline-shorter : (profile : ℕ) {s : List ℕ} {from to : ℕ} → Run (tokens3 profile) s from to → length (withNewline s from to) ≤ length s
 unfolding withNewline
 newline-shorter profile {s} {from} {to} r =
     let p = run-places profile r in

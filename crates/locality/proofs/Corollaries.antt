@@ -23,9 +23,9 @@ use Rattle.lexer.specs.Kinds.{blockComment, whitespaceKind}
 use Rattle.cutters.specs.Records.{Token, total}
 use Rattle.lexer.specs.Cut.{nextToken, tokens}
 use Rattle.lexer.specs.Unicode.{unicode}
-use Rattle.lexer.specs.Promises.{tokensOf}
+use Rattle.lexer.specs.Promises.{tokens3}
 use Rattle.locality.specs.Phases.{Seen, bits, broken, other, seenKind}
-use Rattle.tokens.specs.Members.{isCounted, membersOf}
+use Rattle.tokens.specs.Members.{isCounted, members3}
 use Rattle.locality.specs.Newline.{noneCount, Run, withNewline}
 use Rattle.locality.specs.Changes.{lastIs, isLine, isOpen, isKept, LfIn, EndsAt, inserted}
 use Rattle.locality.proofs.Cuts.{Item, counted, texts, toks, counted-join, Cuts, more, cuts-text, cuts-join, first-cut, split, whole, cut-length, total-bytes, Over}
@@ -39,16 +39,16 @@ use Rattle.locality.proofs.Insert.{Free, free-uncounted, insert-chars, 
 
 module _ (profile : ℕ) where
   -- ---- ONE RUN FOR ANOTHER: two texts that are the same before and behind a run of uncounted tokens each have the same counted tokens
-  pub same-between : {s s′ : List ℕ} {from to from′ to′ : ℕ} → WellFormed s → WellFormed s′ → Run profile s from to → Run profile s′ from′ to′ → take from s ≡ take from′ s′ → drop to s ≡ drop to′ s′ →
-      membersOf profile s ≡ membersOf profile s′
+  pub same-between : {s s′ : List ℕ} {from to from′ to′ : ℕ} → WellFormed s → WellFormed s′ → Run (tokens3 profile) s from to → Run (tokens3 profile) s′ from′ to′ → take from s ≡ take from′ s′ → drop to s ≡ drop to′ s′ →
+      members3 profile s ≡ members3 profile s′
   unfolding withNewline
-  same-between f g r r′ x y = sym (newline-clause profile f r .1) ∙ ap (membersOf profile) (ap₂ (λ (a b : List ℕ). a ++ 0x0A ∷ b) x y) ∙ newline-clause profile g r′ .1
+  same-between f g r r′ x y = sym (newline-clause profile f r .1) ∙ ap (members3 profile) (ap₂ (λ (a b : List ℕ). a ++ 0x0A ∷ b) x y) ∙ newline-clause profile g r′ .1
 
   abbrev Cut : List Item → List ℕ → List ℕ → Type 0
   Cut = Cuts unicode profile
 
   -- ---- from characters to bytes: two texts of characters, with the same counted tokens
-  same-bytes : {i j : List Item} {l m : List ℕ} → Cut i l [] → Cut j m [] → all isScalar l ≡ true → all isScalar m ≡ true → counted j ≡ counted i → membersOf profile (encodeAll m) ≡ membersOf profile (encodeAll l)
+  same-bytes : {i j : List Item} {l m : List ℕ} → Cut i l [] → Cut j m [] → all isScalar l ≡ true → all isScalar m ≡ true → counted j ≡ counted i → members3 profile (encodeAll m) ≡ members3 profile (encodeAll l)
   same-bytes a b v w e = counted-of profile b w ∙ ap written e ∙ sym (counted-of profile a v)
 
   -- ---- A NEWLINE AT THE END
@@ -77,7 +77,7 @@ module _ (profile : ℕ) where
   lf-scalar = refl
 
   end-bytes : {i : List Item} {l : List ℕ} → Cut i l [] → all isScalar l ≡ true → lastIs isOpen (toks i) ≡ false →
-      WellFormed (encodeAll l ++ 0x0A ∷ []) × (membersOf profile (encodeAll l ++ 0x0A ∷ []) ≡ membersOf profile (encodeAll l))
+      WellFormed (encodeAll l ++ 0x0A ∷ []) × (members3 profile (encodeAll l ++ 0x0A ∷ []) ≡ members3 profile (encodeAll l))
   unfolding counted
   end-bytes {i} {l} c v h =
       let o = newline-end unicode unicode-usual profile c (last-closes i h) in
@@ -88,8 +88,8 @@ module _ (profile : ℕ) where
       (rw (← z) (encoded-well-formed (texts i ++ 0x0A ∷ []) w), rw (← z) (same-bytes c (o .cuts) v w e))
 
   -- a newline put at the end leaves the counted tokens, unless the last token is an unclosed comment or an unclosed quoted text
-  pub newline-appended : (s : List ℕ) → WellFormed s → lastIs isOpen (tokensOf profile s) ≡ false → WellFormed (s ++ 0x0A ∷ []) × (membersOf profile (s ++ 0x0A ∷ []) ≡ membersOf profile s)
-  unfolding tokensOf
+  pub newline-appended : (s : List ℕ) → WellFormed s → lastIs isOpen (tokens3 profile s) ≡ false → WellFormed (s ++ 0x0A ∷ []) × (members3 profile (s ++ 0x0A ∷ []) ≡ members3 profile s)
+  unfolding tokens3
   newline-appended s f h =
       let e = well-formed-encoded s f in
       let v : chars s ≡ e .of = ap chars (e .same) ∙ read-all (e .of) (e .scalars) in
@@ -107,7 +107,7 @@ module _ (profile : ℕ) where
 
   insert-bytes : {i j : List Item} {l r : List ℕ} (c : ℕ) (e : List ℕ) (k : Token) (v : List ℕ) (at : ℕ) → Cut i l (c ∷ (e ++ r)) → nextToken unicode profile c (e ++ r) ≡ (k, r) → isCounted (k .kind) ≡ false → Cut j r [] →
       Over unicode profile j i (texts i ++ c ∷ (e ++ (v ++ r))) → all isScalar l ≡ true → all isScalar v ≡ true → at ≡ total (toks i) + k .len →
-      WellFormed (inserted (encodeAll l) at (encodeAll v)) × (membersOf profile (inserted (encodeAll l) at (encodeAll v)) ≡ membersOf profile (encodeAll l))
+      WellFormed (inserted (encodeAll l) at (encodeAll v)) × (members3 profile (inserted (encodeAll l) at (encodeAll v)) ≡ members3 profile (encodeAll l))
   unfolding counted byteLength
   insert-bytes {i} {j} {l} {r} c e k v at a x n b o f g p =
       let y : List ℕ = texts i ++ c ∷ e in
@@ -123,10 +123,10 @@ module _ (profile : ℕ) where
       (rw z (encoded-well-formed (texts i ++ c ∷ (e ++ (v ++ r))) w), rw z (same-bytes d (o .cuts) f w s))
 
   -- behind a token of a text
-  insert-at : {s : List ℕ} {at : ℕ} {t : Token} (v : List ℕ) → WellFormed s → EndsAt profile s at t → isCounted (t .kind) ≡ false → all isScalar v ≡ true →
+  insert-at : {s : List ℕ} {at : ℕ} {t : Token} (v : List ℕ) → WellFormed s → EndsAt (tokens3 profile) s at t → isCounted (t .kind) ≡ false → all isScalar v ≡ true →
       ((i j : List Item) (l r : List ℕ) (c : ℕ) (e : List ℕ) → Cut i l (c ∷ (e ++ r)) → nextToken unicode profile c (e ++ r) ≡ (t, r) → Cut j r [] → Over unicode profile j i (texts i ++ c ∷ (e ++ (v ++ r)))) →
-      WellFormed (inserted s at (encodeAll v)) × (membersOf profile (inserted s at (encodeAll v)) ≡ membersOf profile s)
-  unfolding tokensOf
+      WellFormed (inserted s at (encodeAll v)) × (members3 profile (inserted s at (encodeAll v)) ≡ members3 profile s)
+  unfolding tokens3
   insert-at {s} {at} {t} v f p n g over =
       let e = well-formed-encoded s f in
       let y : tokens unicode profile (e .of) ≡ p .before ++ (t ∷ p .behind) = ap (tokens unicode profile) (sym (ap chars (e .same) ∙ read-all (e .of) (e .scalars))) ∙ p .is in
@@ -147,8 +147,8 @@ module _ (profile : ℕ) where
   free k h = by-test (eqb k blockComment) (λ e. inl (eqb-true k blockComment e)) (λ e. inr (eqb-true k whitespaceKind (rw e at h)))
 
   -- white space put directly behind a token that does not count
-  pub white-inserted : {s : List ℕ} {at : ℕ} {t : Token} (v : List ℕ) → WellFormed s → EndsAt profile s at t → isCounted (t .kind) ≡ false → WellFormed v → all isWhitespace (chars v) ≡ true →
-      WellFormed (inserted s at v) × (membersOf profile (inserted s at v) ≡ membersOf profile s)
+  pub white-inserted : {s : List ℕ} {at : ℕ} {t : Token} (v : List ℕ) → WellFormed s → EndsAt (tokens3 profile) s at t → isCounted (t .kind) ≡ false → WellFormed v → all isWhitespace (chars v) ≡ true →
+      WellFormed (inserted s at v) × (members3 profile (inserted s at v) ≡ members3 profile s)
   white-inserted {s} {at} {t} v f p n g h =
       let e = well-formed-encoded v g in
       let w = whites (e .of) (ap (all isWhitespace) (sym (ap chars (e .same) ∙ read-all (e .of) (e .scalars))) ∙ h) in
@@ -156,9 +156,9 @@ module _ (profile : ℕ) where
 
   -- comments and white space put directly behind white space or a closed block comment: any text of tokens that do not count, of which the
   -- last is no line comment
-  pub text-inserted : {s : List ℕ} {at : ℕ} {t : Token} (v : List ℕ) → WellFormed s → EndsAt profile s at t → (eqb (t .kind) blockComment || eqb (t .kind) whitespaceKind) ≡ true → WellFormed v →
-      noneCount (tokensOf profile v) ≡ true → lastIs isLine (tokensOf profile v) ≡ false → WellFormed (inserted s at v) × (membersOf profile (inserted s at v) ≡ membersOf profile s)
-  unfolding tokensOf
+  pub text-inserted : {s : List ℕ} {at : ℕ} {t : Token} (v : List ℕ) → WellFormed s → EndsAt (tokens3 profile) s at t → (eqb (t .kind) blockComment || eqb (t .kind) whitespaceKind) ≡ true → WellFormed v →
+      noneCount (tokens3 profile v) ≡ true → lastIs isLine (tokens3 profile v) ≡ false → WellFormed (inserted s at v) × (members3 profile (inserted s at v) ≡ members3 profile s)
+  unfolding tokens3
   text-inserted {s} {at} {t} v f p k g m h =
       let e = well-formed-encoded v g in
       let w = whole unicode profile (e .of) in
@@ -254,7 +254,7 @@ module _ (profile : ℕ) where
 
   crlf-bytes : (A B : List ℕ) (k : Token) (p q : List Token) → all isScalar (A ++ 0x0A ∷ B) ≡ true → tokens unicode profile (A ++ 0x0A ∷ B) ≡ p ++ (k ∷ q) → k .kind ≡ whitespaceKind →
       total p ≤ byteLength A → byteLength A < total p + k .len → (total p ≡ byteLength A → lastIs isKept p ≡ false) →
-      WellFormed (encodeAll (A ++ 0x0D ∷ 0x0A ∷ B)) × (membersOf profile (encodeAll (A ++ 0x0D ∷ 0x0A ∷ B)) ≡ membersOf profile (encodeAll (A ++ 0x0A ∷ B)))
+      WellFormed (encodeAll (A ++ 0x0D ∷ 0x0A ∷ B)) × (members3 profile (encodeAll (A ++ 0x0D ∷ 0x0A ∷ B)) ≡ members3 profile (encodeAll (A ++ 0x0A ∷ B)))
   unfolding all isScalar
   crlf-bytes A B k p q v h w m n f =
       let a = split unicode profile p (k ∷ q) (A ++ 0x0A ∷ B) h in
@@ -270,8 +270,8 @@ module _ (profile : ℕ) where
       (encoded-well-formed (A ++ 0x0D ∷ 0x0A ∷ B) u, same-bytes profile d (o .cuts) v u s)
 
   -- a CR put before an LF in white space that ends no Pragma and no Annotation
-  pub crlf : (a b : List ℕ) → WellFormed a → WellFormed (a ++ 0x0A ∷ b) → LfIn profile a b → WellFormed (a ++ 0x0D ∷ 0x0A ∷ b) × (membersOf profile (a ++ 0x0D ∷ 0x0A ∷ b) ≡ membersOf profile (a ++ 0x0A ∷ b))
-  unfolding tokensOf encodeAll encode
+  pub crlf : (a b : List ℕ) → WellFormed a → WellFormed (a ++ 0x0A ∷ b) → LfIn (tokens3 profile) a b → WellFormed (a ++ 0x0D ∷ 0x0A ∷ b) × (members3 profile (a ++ 0x0D ∷ 0x0A ∷ b) ≡ members3 profile (a ++ 0x0A ∷ b))
+  unfolding tokens3 encodeAll encode
   crlf a b f g p =
       let A = well-formed-encoded a f in
       let L = well-formed-encoded (a ++ 0x0A ∷ b) g in

@@ -13,7 +13,7 @@ use Rattle.unicode.proofs.Text.{chars-nil, chars-first, bytes-chars}
 use Rattle.cutters.specs.Records.{Token, total}
 use Rattle.lexer.specs.Cut.{nextToken, tokens}
 use Rattle.lexer.specs.Unicode.{unicode}
-use Rattle.lexer.specs.Promises.{tokensOf}
+use Rattle.lexer.specs.Promises.{tokens3}
 use Rattle.lexer.proofs.Shapes.{tokens-nil}
 use Rattle.tokens.proofs.First.{tokens-first, first-some}
 use Rattle.cutters.specs.Cutter.{Cutter, cutBytes}
@@ -60,10 +60,10 @@ module _ (profile : ℕ) where
   pub openQasm : Cutter
   openQasm = record { next = firstToken profile; some = λ a s. first-some unicode profile (first (a ∷ s) .0) (chars (drop (first (a ∷ s) .1) (a ∷ s))); within = first-within }
 
-  pub tokens-cut : (s : List ℕ) → tokensOf profile s ≡ cutBytes openQasm s
-  unfolding tokensOf openQasm
+  pub tokens-cut : (s : List ℕ) → tokens3 profile s ≡ cutBytes openQasm s
+  unfolding tokens3 openQasm
   tokens-cut =
-      by-length (λ (s : List ℕ). tokensOf profile s ≡ cutBytes openQasm s)
+      by-length (λ (s : List ℕ). tokens3 profile s ≡ cutBytes openQasm s)
       (ap (tokens unicode profile) chars-nil ∙ tokens-nil unicode profile ∙ sym (cut-none openQasm))
       (λ a s ih.
       let n = firstToken profile a s in
@@ -72,5 +72,5 @@ module _ (profile : ℕ) where
       ∙ sym (cut-first openQasm a s))
 
   -- SAME ENDING, SAME TOKENS, of texts
-  pub same-tokens : (p q p′ q′ : List Token) (s s′ : List ℕ) → tokensOf profile s ≡ p ++ q → tokensOf profile s′ ≡ p′ ++ q′ → drop (total p) s ≡ drop (total p′) s′ → q ≡ q′
+  pub same-tokens : (p q p′ q′ : List Token) (s s′ : List ℕ) → tokens3 profile s ≡ p ++ q → tokens3 profile s′ ≡ p′ ++ q′ → drop (total p) s ≡ drop (total p′) s′ → q ≡ q′
   same-tokens p q p′ q′ s s′ h h′ = same-ending openQasm p q p′ q′ s s′ (sym (tokens-cut s) ∙ h) (sym (tokens-cut s′) ∙ h′)

@@ -16,11 +16,11 @@ use Rattle.cutters.specs.Records.{flatFrom}
 use Rattle.lexer.specs.Kinds.{marks, markIn}
 use Rattle.lexer.specs.Cut.{notLf, isDigit, isHexDigit, block, slash, digits, exponent, exponentOf, point, fraction, based, number, isUnit, quoted, withoutLf, twice, quoteKind, agree, pound, name, word, annotated, hardware, identifier, numberSuffix, advance, nextToken, tokens}
 use Rattle.lexer.specs.Unicode.{unicode}
-use Rattle.lexer.specs.Promises.{tokensOf}
+use Rattle.lexer.specs.Promises.{tokens3}
 use Rattle.locality.specs.Machine.{run, cutBy}
 use Rattle.locality.specs.Phases as Phases
 use Rattle.locality.specs.Phases.{act}
-use Rattle.tokens.specs.Members.{Member, isCounted, counted, membersBy, membersOf}
+use Rattle.tokens.specs.Members.{Member, isCounted, counted, membersBy, members3}
 use Rattle.locality.specs.Newline.{Run, withNewline}
 use Rattle.locality.specs.Changes.{inserted}
 
@@ -44,8 +44,8 @@ abbrev item : ℕ → ℕ → ℕ → List ℕ → Member
 item k n s text = record { kind = k; len = n; suffix = s; bytes = text }
 
 -- `a//b` has a run of one uncounted token, and with a newline for it
-run-sample : Run 0 (0x61 ∷ 0x2F ∷ 0x2F ∷ 0x62 ∷ []) 1 4
-unfolding all pieces cut eat inTable xidStart xidContinue emoji table behind begins joined readBy first next chars width byteLength skip whitespace marks markIn unicode tokensOf notLf isDigit isHexDigit block slash digits exponent exponentOf point fraction based number isUnit quoted withoutLf twice quoteKind agree pound name word annotated hardware identifier numberSuffix advance nextToken tokens isCounted
+run-sample : Run (tokens3 0) (0x61 ∷ 0x2F ∷ 0x2F ∷ 0x62 ∷ []) 1 4
+unfolding all pieces cut eat inTable xidStart xidContinue emoji table behind begins joined readBy first next chars width byteLength skip whitespace marks markIn unicode tokens3 notLf isDigit isHexDigit block slash digits exponent exponentOf point fraction based number isUnit quoted withoutLf twice quoteKind agree pound name word annotated hardware identifier numberSuffix advance nextToken tokens isCounted
 run-sample =
     record {
       before = record { kind = 5; len = 1; suffix = 0 } ∷ [];
@@ -58,24 +58,24 @@ run-sample =
       ends = refl;
     }
 
-clause-sample : (membersOf 0 (0x61 ∷ 0x2F ∷ 0x2F ∷ 0x62 ∷ []) ≡ item 5 1 0 (0x61 ∷ []) ∷ []) × (withNewline (0x61 ∷ 0x2F ∷ 0x2F ∷ 0x62 ∷ []) 1 4 ≡ 0x61 ∷ 0x0A ∷ [])
-unfolding all pieces cut eat inTable xidStart xidContinue emoji table behind begins joined readBy first next chars width byteLength skip whitespace marks markIn unicode tokensOf notLf isDigit isHexDigit block slash digits exponent exponentOf point fraction based number isUnit quoted withoutLf twice quoteKind agree pound name word annotated hardware identifier numberSuffix advance nextToken tokens isCounted counted membersBy membersOf withNewline
+clause-sample : (members3 0 (0x61 ∷ 0x2F ∷ 0x2F ∷ 0x62 ∷ []) ≡ item 5 1 0 (0x61 ∷ []) ∷ []) × (withNewline (0x61 ∷ 0x2F ∷ 0x2F ∷ 0x62 ∷ []) 1 4 ≡ 0x61 ∷ 0x0A ∷ [])
+unfolding all pieces cut eat inTable xidStart xidContinue emoji table behind begins joined readBy first next chars width byteLength skip whitespace marks markIn unicode tokens3 notLf isDigit isHexDigit block slash digits exponent exponentOf point fraction based number isUnit quoted withoutLf twice quoteKind agree pound name word annotated hardware identifier numberSuffix advance nextToken tokens isCounted counted membersBy members3 withNewline
 clause-sample = (refl, refl)
 
 -- where the counted tokens change: a closed block comment behind a slash, `/` and `//**/`; a block comment that holds an LF behind a line
 -- comment, `//` and `///*` LF `*/`; a space behind a Pragma; CR LF for the LF behind a Pragma; a newline behind an unclosed quoted text, `"`
 -- and `"` LF. And a CR ends no line comment: `//` CR `a`
 exceptions :
-    (membersOf 0 (0x2F ∷ []) ≡ item 34 1 0 (0x2F ∷ []) ∷ [])
-    × (membersOf 0 (inserted (0x2F ∷ []) 1 (0x2F ∷ 0x2A ∷ 0x2A ∷ 0x2F ∷ [])) ≡ [])
-    × (membersOf 0 (0x2F ∷ 0x2F ∷ []) ≡ [])
-    × (membersOf 0 (inserted (0x2F ∷ 0x2F ∷ []) 2 (0x2F ∷ 0x2A ∷ 0x0A ∷ 0x2A ∷ 0x2F ∷ [])) ≡ item 33 1 0 (0x2A ∷ []) ∷ item 34 1 0 (0x2F ∷ []) ∷ [])
-    × (membersOf 1 (0x70 ∷ 0x72 ∷ 0x61 ∷ 0x67 ∷ 0x6D ∷ 0x61 ∷ []) ≡ item 8 6 0 (0x70 ∷ 0x72 ∷ 0x61 ∷ 0x67 ∷ 0x6D ∷ 0x61 ∷ []) ∷ [])
-    × (membersOf 1 (0x70 ∷ 0x72 ∷ 0x61 ∷ 0x67 ∷ 0x6D ∷ 0x61 ∷ 0x20 ∷ []) ≡ item 8 7 0 (0x70 ∷ 0x72 ∷ 0x61 ∷ 0x67 ∷ 0x6D ∷ 0x61 ∷ 0x20 ∷ []) ∷ [])
-    × (membersOf 1 (0x70 ∷ 0x72 ∷ 0x61 ∷ 0x67 ∷ 0x6D ∷ 0x61 ∷ 0x0A ∷ []) ≡ item 8 6 0 (0x70 ∷ 0x72 ∷ 0x61 ∷ 0x67 ∷ 0x6D ∷ 0x61 ∷ []) ∷ [])
-    × (membersOf 1 (0x70 ∷ 0x72 ∷ 0x61 ∷ 0x67 ∷ 0x6D ∷ 0x61 ∷ 0x0D ∷ 0x0A ∷ []) ≡ item 8 7 0 (0x70 ∷ 0x72 ∷ 0x61 ∷ 0x67 ∷ 0x6D ∷ 0x61 ∷ 0x0D ∷ []) ∷ [])
-    × (membersOf 0 (0x22 ∷ []) ≡ item 58 1 1 (0x22 ∷ []) ∷ [])
-    × (membersOf 0 (0x22 ∷ 0x0A ∷ []) ≡ item 58 2 2 (0x22 ∷ 0x0A ∷ []) ∷ [])
-    × (membersOf 0 (0x2F ∷ 0x2F ∷ 0x0D ∷ 0x61 ∷ []) ≡ [])
-unfolding all pieces cut eat inTable xidStart xidContinue emoji table behind begins joined readBy first next chars width byteLength skip whitespace marks markIn unicode tokensOf notLf isDigit isHexDigit block slash digits exponent exponentOf point fraction based number isUnit quoted withoutLf twice quoteKind agree pound name word annotated hardware identifier numberSuffix advance nextToken tokens isCounted counted membersBy membersOf inserted
+    (members3 0 (0x2F ∷ []) ≡ item 34 1 0 (0x2F ∷ []) ∷ [])
+    × (members3 0 (inserted (0x2F ∷ []) 1 (0x2F ∷ 0x2A ∷ 0x2A ∷ 0x2F ∷ [])) ≡ [])
+    × (members3 0 (0x2F ∷ 0x2F ∷ []) ≡ [])
+    × (members3 0 (inserted (0x2F ∷ 0x2F ∷ []) 2 (0x2F ∷ 0x2A ∷ 0x0A ∷ 0x2A ∷ 0x2F ∷ [])) ≡ item 33 1 0 (0x2A ∷ []) ∷ item 34 1 0 (0x2F ∷ []) ∷ [])
+    × (members3 1 (0x70 ∷ 0x72 ∷ 0x61 ∷ 0x67 ∷ 0x6D ∷ 0x61 ∷ []) ≡ item 8 6 0 (0x70 ∷ 0x72 ∷ 0x61 ∷ 0x67 ∷ 0x6D ∷ 0x61 ∷ []) ∷ [])
+    × (members3 1 (0x70 ∷ 0x72 ∷ 0x61 ∷ 0x67 ∷ 0x6D ∷ 0x61 ∷ 0x20 ∷ []) ≡ item 8 7 0 (0x70 ∷ 0x72 ∷ 0x61 ∷ 0x67 ∷ 0x6D ∷ 0x61 ∷ 0x20 ∷ []) ∷ [])
+    × (members3 1 (0x70 ∷ 0x72 ∷ 0x61 ∷ 0x67 ∷ 0x6D ∷ 0x61 ∷ 0x0A ∷ []) ≡ item 8 6 0 (0x70 ∷ 0x72 ∷ 0x61 ∷ 0x67 ∷ 0x6D ∷ 0x61 ∷ []) ∷ [])
+    × (members3 1 (0x70 ∷ 0x72 ∷ 0x61 ∷ 0x67 ∷ 0x6D ∷ 0x61 ∷ 0x0D ∷ 0x0A ∷ []) ≡ item 8 7 0 (0x70 ∷ 0x72 ∷ 0x61 ∷ 0x67 ∷ 0x6D ∷ 0x61 ∷ 0x0D ∷ []) ∷ [])
+    × (members3 0 (0x22 ∷ []) ≡ item 58 1 1 (0x22 ∷ []) ∷ [])
+    × (members3 0 (0x22 ∷ 0x0A ∷ []) ≡ item 58 2 2 (0x22 ∷ 0x0A ∷ []) ∷ [])
+    × (members3 0 (0x2F ∷ 0x2F ∷ 0x0D ∷ 0x61 ∷ []) ≡ [])
+unfolding all pieces cut eat inTable xidStart xidContinue emoji table behind begins joined readBy first next chars width byteLength skip whitespace marks markIn unicode tokens3 notLf isDigit isHexDigit block slash digits exponent exponentOf point fraction based number isUnit quoted withoutLf twice quoteKind agree pound name word annotated hardware identifier numberSuffix advance nextToken tokens isCounted counted membersBy members3 inserted
 exceptions = (refl, refl, refl, refl, refl, refl, refl, refl, refl, refl, refl)

@@ -14,9 +14,9 @@ use Rattle.unicode.proofs.Valid.{encode-append, encode-bytes, read-all}
 use Rattle.cutters.specs.Records.{Token}
 use Rattle.lexer.specs.Cut.{Letters, tokens}
 use Rattle.lexer.specs.Unicode.{unicode}
-use Rattle.lexer.specs.Promises.{tokensOf}
+use Rattle.lexer.specs.Promises.{tokens3}
 use Rattle.lexer.proofs.Shapes.{tokens-nil}
-use Rattle.tokens.specs.Members.{Member, isCounted, counted as members, membersBy, membersOf}
+use Rattle.tokens.specs.Members.{Member, isCounted, counted as members, membersBy, members3}
 use Rattle.locality.proofs.Cuts.{Item, counted, toks, Cuts, none, more, cuts-tokens, cut-length}
 
 -- ---- tokens with their bytes
@@ -38,8 +38,8 @@ module _ (u : Letters) (profile : ℕ) where
       rw (h, encode-append (c ∷ e) r)
       (by-test (isCounted (k .kind)) (λ t. rw (t, members) (ap₂ (λ (y : List ℕ) (z : List Member). record { kind = k .kind; len = k .len; suffix = k .suffix; bytes = y } ∷ z) (take-at (encodeAll (c ∷ e)) (encodeAll r) (k .len) n) ih)) (λ t. rw (t, members) ih))
 
-pub counted-of : (profile : ℕ) {i : List Item} {l : List ℕ} → Cuts unicode profile i l [] → all isScalar l ≡ true → membersOf profile (encodeAll l) ≡ written (counted i)
-unfolding membersOf membersBy tokensOf
+pub counted-of : (profile : ℕ) {i : List Item} {l : List ℕ} → Cuts unicode profile i l [] → all isScalar l ≡ true → members3 profile (encodeAll l) ≡ written (counted i)
+unfolding members3 membersBy tokens3
 counted-of profile {i} {l} c h =
     let t : tokens unicode profile (chars (encodeAll l)) ≡ toks i =
     ap (tokens unicode profile) (read-all l h) ∙ cuts-tokens unicode profile c ∙ ap (λ (y : List Token). toks i ++ y) (tokens-nil unicode profile) ∙ append-nil (toks i) in

@@ -8,7 +8,6 @@ use lib.Dec.{eqb}
 use lib.ListN.{length, take, drop}
 use Rattle.lexer.specs.Kinds.{lineComment, unclosedComment, whitespaceKind, pragma, annotation, str, bitStr}
 use Rattle.cutters.specs.Records.{Token, total}
-use Rattle.lexer.specs.Promises.{tokensOf}
 
 -- the last token passes a test
 unfoldable pub lastIs : (ℕ → Bool) → List Token → Bool
@@ -29,10 +28,10 @@ abbrev pub isKept : ℕ → Bool
 isKept k = eqb k pragma || eqb k annotation
 
 -- a token of s ends at a place
-pub record EndsAt (profile : ℕ) (s : List ℕ) (at : ℕ) (t : Token) : Type 0 where
+pub record EndsAt (cutter : List ℕ → List Token) (s : List ℕ) (at : ℕ) (t : Token) : Type 0 where
   pub before : List Token
   pub behind : List Token
-  pub is : tokensOf profile s ≡ before ++ (t ∷ behind)
+  pub is : cutter s ≡ before ++ (t ∷ behind)
   pub place : at ≡ total before + t .len
 
 -- bytes v put in at a place
@@ -40,11 +39,11 @@ unfoldable pub inserted : List ℕ → ℕ → List ℕ → List ℕ
 inserted s at v = take at s ++ (v ++ drop at s)
 
 -- the LF between the bytes a and b stands in white space, and does not end a Pragma or an Annotation
-pub record LfIn (profile : ℕ) (a b : List ℕ) : Type 0 where
+pub record LfIn (cutter : List ℕ → List Token) (a b : List ℕ) : Type 0 where
   pub before : List Token
   pub token : Token
   pub behind : List Token
-  pub is : tokensOf profile (a ++ 0x0A ∷ b) ≡ before ++ (token ∷ behind)
+  pub is : cutter (a ++ 0x0A ∷ b) ≡ before ++ (token ∷ behind)
   pub white : token .kind ≡ whitespaceKind
   pub starts : total before ≤ length a
   pub ends : length a < total before + token .len

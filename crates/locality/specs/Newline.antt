@@ -7,19 +7,18 @@ use mathlib.Core.List.{List, _∷_, _++_}
 use lib.ListN.{length, take, drop}
 use Rattle.lists.specs.All.{all}
 use Rattle.cutters.specs.Records.{Token, total}
-use Rattle.lexer.specs.Promises.{tokensOf}
 use Rattle.tokens.specs.Members.{isCounted}
 
 -- no token counts
 abbrev pub noneCount : List Token → Bool
 noneCount ts = all (λ t. not (isCounted (t .kind))) ts
 
--- an unbroken run of one or more tokens that do not count stands in s, from one place to another; tokens before and behind it may be of any kind
-pub record Run (profile : ℕ) (s : List ℕ) (from to : ℕ) : Type 0 where
+-- an unbroken run of one or more tokens that do not count, by a cutter on bytes, stands in s, from one place to another; tokens before and behind it may be of any kind
+pub record Run (cutter : List ℕ → List Token) (s : List ℕ) (from to : ℕ) : Type 0 where
   pub before : List Token
   pub run : List Token
   pub behind : List Token
-  pub is : tokensOf profile s ≡ before ++ (run ++ behind)
+  pub is : cutter s ≡ before ++ (run ++ behind)
   pub some : 1 ≤ length run
   pub uncounted : noneCount run ≡ true
   pub starts : from ≡ total before

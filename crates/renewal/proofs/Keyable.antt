@@ -20,7 +20,7 @@ use Rattle.cutters.specs.Records.{Token, total, recordWords, flatFrom}
 use Rattle.cutters.proofs.Records.{length-flat}
 use Rattle.lexer.specs.Cut.{Letters, Piece, advance, nextToken, tokens}
 use Rattle.lexer.specs.Unicode.{unicode}
-use Rattle.lexer.specs.Promises.{tokensOf, run, CutRun, tokensBy}
+use Rattle.lexer.specs.Promises.{tokens3, tokensOf, run, CutRun, tokensBy}
 use Rattle.lexer.proofs.Shapes.{Shape, plain, literal, advance-shape, tokens-nil}
 use Rattle.tokens.proofs.First.{tokens-first, first-some}
 use Rattle.tokens.proofs.Tiling.{formed-of}
@@ -111,7 +111,7 @@ module _ (u : Letters) (profile : ℕ) where
 
 -- that of the profiles
 pub profile-keyable : (profile : ℕ) → Keyable (tokensOf profile)
-unfolding tokensOf
+unfolding tokensOf tokens3
 profile-keyable profile = keyable unicode profile
 
 -- ---- what `cut_run` gives are the tokens at the front

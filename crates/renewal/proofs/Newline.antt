@@ -3,18 +3,20 @@
 use Prim.Native.Nat.{ℕ, _≤_}
 use native.Mathlib.Omega.{arith}
 use mathlib.Core.Path.{_≡_, refl, ap, sym, _∙_}
-use mathlib.Core.Bool.{false}
+use mathlib.Core.Bool.{true, false}
 use mathlib.Core.List.{List}
 use lib.Dec.{ltb}
 use lib.ListN.{length, take}
 use borrow.Author.Tests.{le-ltb, eq-eqb}
 use Rattle.lists.proofs.Bools.{on-cond}
 use Rattle.unicode.specs.Utf8.{WellFormed}
-use Rattle.text.specs.Answer.{done, longest, checkCut}
+use Rattle.text.specs.Answer.{done, longest, knownProfile, checkCut}
 use Rattle.text.proofs.Checks.{cut-accepted, cut-passes}
 use Rattle.locality.specs.Newline.{Run, withNewline}
 use Rattle.locality.proofs.Clause.{newline-shorter, newline-clause}
-use Rattle.tokens.specs.Members.{membersOf}
+use Rattle.lexer.specs.Promises.{tokens3, tokensOf}
+use Rattle.lexer.proofs.Whole.{known3}
+use Rattle.tokens.specs.Members.{counted, membersBy, members3, membersOf}
 use Rattle.renewal.specs.Key.{keyOf, keyOfText}
 use Rattle.renewal.specs.Promises.{answerOf, Keyed}
 use Rattle.renewal.proofs.Whole.{done-accepted, done-written}
@@ -30,14 +32,35 @@ pub same-accepted : (profile : ℕ) (s s′ : List ℕ) → checkCut s profile .
 same-accepted profile s s′ h f l e =
     (ap (λ (r : ℕ × ℕ). r .0) (cut-passes s′ profile (record { known = cut-accepted s profile h .known; text = record { short = l; good = f } })), same-key profile s′ s e)
 
+-- ---- under the profiles of OpenQASM 3 a run, and the members, are its own
+run-known : (profile : ℕ) {s : List ℕ} {from to : ℕ} → knownProfile profile ≡ true → Run (tokensOf profile) s from to → Run (tokens3 profile) s from to
+run-known profile {s} k r =
+    record {
+      before = r .before;
+      run = r .run;
+      behind = r .behind;
+      is = sym (known3 profile s k) ∙ r .is;
+      some = r .some;
+      uncounted = r .uncounted;
+      starts = r .starts;
+      ends = r .ends;
+    }
+
+members-known : (profile : ℕ) (s : List ℕ) → knownProfile profile ≡ true → membersOf profile s ≡ members3 profile s
+unfolding membersOf members3 membersBy
+members-known profile s k = ap (counted s) (known3 profile s k)
+
 -- ---- THE NEWLINE CLAUSE: of a text that is accepted, with one newline in place of any unbroken run of one or more uncounted tokens, the new text
 -- is accepted too, and its key is the same
-pub newline-key : (profile : ℕ) {s : List ℕ} {from to : ℕ} → checkCut s profile .0 ≡ done → Run profile s from to →
+pub newline-key : (profile : ℕ) {s : List ℕ} {from to : ℕ} → checkCut s profile .0 ≡ done → Run (tokensOf profile) s from to →
     (checkCut (withNewline s from to) profile .0 ≡ done) × (keyOfText profile (withNewline s from to) ≡ keyOfText profile s)
 newline-key profile {s} {from} {to} h r =
-    let a = cut-accepted s profile h .text in
-    let c = newline-clause profile (a .good) r in
-    same-accepted profile s (withNewline s from to) h (c .0) (omega (arith, newline-shorter profile r, a .short)) (c .1)
+    let a = cut-accepted s profile h in
+    let r₃ = run-known profile (a .known) r in
+    let c = newline-clause profile (a .text .good) r₃ in
+    let e : membersOf profile (withNewline s from to) ≡ membersOf profile s =
+    members-known profile (withNewline s from to) (a .known) ∙ c .1 ∙ sym (members-known profile s (a .known)) in
+    same-accepted profile s (withNewline s from to) h (c .0) (omega (arith, newline-shorter profile r₃, a .text .short)) e
 
 -- what a call that is done tells: the length of the key
 done-length : {s : List ℕ} {profile : ℕ} {key : List ℕ} {a : ℕ} {k : List ℕ} → Keyed s profile key done a k → a ≡ length (keyOfText profile s)
@@ -49,7 +72,7 @@ done-length {s} {profile} {key} p =
 
 -- THE NEWLINE CLAUSE on what two calls have written: where the one on the text is done, the one on the new text is done too in any room that
 -- the key has, and has written the same key
-pub newline-written : {s : List ℕ} {profile from to : ℕ} {key key′ : List ℕ} {a n b : ℕ} {k k′ : List ℕ} → Keyed s profile key done a k → Run profile s from to →
+pub newline-written : {s : List ℕ} {profile from to : ℕ} {key key′ : List ℕ} {a n b : ℕ} {k k′ : List ℕ} → Keyed s profile key done a k → Run (tokensOf profile) s from to →
     Keyed (withNewline s from to) profile key′ n b k′ → a ≤ length key′ → (n ≡ done) × (b ≡ a) × (take b k′ ≡ take a k)
 unfolding answerOf
 newline-written {s} {profile} {from} {to} {key} {key′} {a} {n} {b} {k} {k′} p r q l =

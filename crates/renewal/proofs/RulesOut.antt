@@ -19,7 +19,7 @@ use Rattle.letters.specs.Chars.{whitespace}
 use Rattle.lexer.specs.Kinds.{marks, markIn}
 use Rattle.lexer.specs.Cut.{notLf, isDigit, isHexDigit, block, slash, digits, exponent, exponentOf, point, fraction, based, number, isUnit, quoted, quoteKind, agree, pound, name, word, annotated, hardware, identifier, numberSuffix, advance, nextToken, tokens}
 use Rattle.lexer.specs.Unicode.{unicode}
-use Rattle.lexer.specs.Promises.{tokensOf}
+use Rattle.lexer.specs.Promises.{tokens3, tokensOf}
 use Rattle.tokens.specs.Members.{isCounted, counted, membersBy, membersOf}
 use Rattle.renewal.specs.Key.{bodyLength, lowBytes, nextText, texts, encode, keyOf, keyOfText}
 use Rattle.renewal.specs.Promises.{answerOf, keyed, Keyed}
@@ -61,7 +61,7 @@ leaves :
     × (Only spaced room 0 1 (0x0A ∷ 7 ∷ 7 ∷ []))
     × (Only x room 4 7 room)
     × (keyOfText 0 sample ≡ sampleKey)
-unfolding all pieces cut eat inTable xidStart xidContinue emoji table behind begins joined readBy first next chars width goodBytes validUpTo byteLength skip checkText checkCut whitespace marks markIn unicode tokensOf notLf isDigit isHexDigit block slash digits exponent exponentOf point fraction based number isUnit quoted quoteKind agree pound name word annotated hardware identifier numberSuffix advance nextToken tokens isCounted counted membersBy membersOf bodyLength nextText texts encode keyOf keyOfText lowBytes flatten answerOf keyed
+unfolding all pieces cut eat inTable xidStart xidContinue emoji table behind begins joined readBy first next chars width goodBytes validUpTo byteLength skip checkText checkCut whitespace marks markIn unicode tokens3 tokensOf notLf isDigit isHexDigit block slash digits exponent exponentOf point fraction based number isUnit quoted quoteKind agree pound name word annotated hardware identifier numberSuffix advance nextToken tokens isCounted counted membersBy membersOf bodyLength nextText texts encode keyOf keyOfText lowBytes flatten answerOf keyed
 leaves = ((refl, refl), (refl, refl), (refl, refl), (refl, refl), refl)
 
 -- ---- THE SAMPLE: the 22 bytes of x=0b1;//t

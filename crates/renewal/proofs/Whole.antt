@@ -18,7 +18,7 @@ use Rattle.lexer.specs.Cut.{Letters}
 use Rattle.unicode.specs.Ranges.{flat}
 use Rattle.ucd.specs.Ucd.{xidStart, xidContinue, emoji}
 use Rattle.lexer.specs.Unicode.{lent}
-use Rattle.lexer.specs.Promises.{tokensOf, tokensBy}
+use Rattle.lexer.specs.Promises.{tokens3, tokensOf, tokensBy}
 use Rattle.lexer.proofs.Unicode.{lent-is}
 use Rattle.tokens.specs.Members.{membersOf}
 use Rattle.renewal.specs.Key.{keyBy, keyOfText}
@@ -58,7 +58,7 @@ stored-twice cutter {s} {key} {key′} {key″} {n} {m} v l w k a =
 
 -- over the constant tables
 pub lent-stored : (profile : ℕ) (s : List ℕ) {number also : ℕ} {key key′ : List ℕ} → StoredKey (tokensBy (lent (flat xidStart) (flat xidContinue) (flat emoji)) profile) s key number also key′ → StoredKey (tokensOf profile) s key number also key′
-unfolding tokensOf
+unfolding tokensOf tokens3
 lent-stored profile s {number} {also} {key} {key′} r = subst (λ (u : Letters). StoredKey (tokensBy u profile) s key number also key′) lent-is r
 
 -- ---- the whole

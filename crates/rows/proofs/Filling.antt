@@ -20,7 +20,7 @@ use Rattle.lexer.proofs.Shapes.{tokens-nil}
 use Rattle.tokens.proofs.First.{tokens-first}
 use Rattle.tokens.proofs.Tiling.{tiles-chars}
 use Rattle.rows.specs.Rows.{records}
-use Rattle.lexer.specs.Promises.{front}
+use Rattle.lexer.specs.Promises.{front, tokensBy}
 use Rattle.rows.specs.Steps.{recordAt, placeAfter, recordNo, rowAfter, Filled}
 use Rattle.rows.specs.declared.Token.{Token}
 
@@ -31,7 +31,7 @@ length-records (t ∷ ts) = ap suc (length-records ts)
 
 module _ (u : Letters) (profile : ℕ) (s : List ℕ) where
   abbrev from : ℕ → List definitions.Token
-  from at = tokens u profile (left s at)
+  from at = tokensBy u profile (drop at s)
 
   -- the token at a place before the end
   record Stepped (at : ℕ) : Type 0 where
@@ -57,8 +57,8 @@ module _ (u : Letters) (profile : ℕ) (s : List ℕ) where
   -- i tokens are stored in a row: to go on from here comes to the same
   pub record Filling (row : List Token) (i : ℕ) : Type 0 where
     pub within : placeAfter u profile s i ≤ length s
-    pub count : i + length (from (placeAfter u profile s i)) ≡ length (tokens u profile (chars s))
-    pub same : sets (rowAfter u profile s row i) i (records (from (placeAfter u profile s i))) ≡ sets row 0 (records (tokens u profile (chars s)))
+    pub count : i + length (from (placeAfter u profile s i)) ≡ length (tokensBy u profile s)
+    pub same : sets (rowAfter u profile s row i) i (records (from (placeAfter u profile s i))) ≡ sets row 0 (records (tokensBy u profile s))
 
   -- at the end no token is left
   pub none-left : (at : ℕ) → length s ≤ at → from at ≡ []
@@ -76,7 +76,7 @@ module _ (u : Letters) (profile : ℕ) (s : List ℕ) where
         same = (rw (d .first-is) (ap (λ (ts : List definitions.Token). sets (rowAfter u profile s row i) i (records ts)) (sym (d .tokens-are)))) ∙ f .same;
       }
 
-  pub filling : (row : List Token) (i : ℕ) → i ≤ length (tokens u profile (chars s)) → Filling row i
+  pub filling : (row : List Token) (i : ℕ) → i ≤ length (tokensBy u profile s) → Filling row i
   filling row zero h = record { within = omega arith; count = omega arith; same = refl }
   filling row (suc i) h =
       let f = filling row i (omega (arith, h)) in
@@ -90,21 +90,21 @@ module _ (u : Letters) (profile : ℕ) (s : List ℕ) where
     row-length zero = refl
     row-length (suc i) = length-set (rowAfter u profile s row i) i (recordNo u profile s i) ∙ row-length i
 
-    pub not-all : (i : ℕ) → i ≤ length (tokens u profile (chars s)) → placeAfter u profile s i < length s → i < length (tokens u profile (chars s))
+    pub not-all : (i : ℕ) → i ≤ length (tokensBy u profile s) → placeAfter u profile s i < length s → i < length (tokensBy u profile s)
     not-all i h l = omega (arith, filling row i h .count, ap length (stepped (placeAfter u profile s i) l .tokens-are))
 
-    pub next-within : (i : ℕ) → i < length (tokens u profile (chars s)) → placeAfter u profile s (suc i) ≤ length s
+    pub next-within : (i : ℕ) → i < length (tokensBy u profile s) → placeAfter u profile s (suc i) ≤ length s
     next-within i h = filling row (suc i) (omega (arith, h)) .within
 
-    pub all-stored : (i : ℕ) → i ≤ length (tokens u profile (chars s)) → length s ≤ placeAfter u profile s i → length (tokens u profile (chars s)) ≤ length row →
+    pub all-stored : (i : ℕ) → i ≤ length (tokensBy u profile s) → length s ≤ placeAfter u profile s i → length (tokensBy u profile s) ≤ length row →
         Filled u profile s row i (rowAfter u profile s row i)
     unfolding records
     all-stored i h l r =
         let f = filling row i h in
         let z = none-left (placeAfter u profile s i) l in
-        let n : i ≡ length (tokens u profile (chars s)) = omega (arith, f .count, ap length z) in
-        let k = length-records (tokens u profile (chars s)) in
+        let n : i ≡ length (tokensBy u profile s) = omega (arith, f .count, ap length z) in
+        let k = length-records (tokensBy u profile s) in
         let e : sets (rowAfter u profile s row i) i (records (from (placeAfter u profile s i))) ≡ rowAfter u profile s row i = rw z in
-        let g : sets row 0 (records (tokens u profile (chars s))) ≡ records (tokens u profile (chars s)) ++ drop i row =
-        sets-eq (records (tokens u profile (chars s))) row 0 (omega (arith, k, r)) ∙ rw (zero-add, k, ← n) in
+        let g : sets row 0 (records (tokensBy u profile s)) ≡ records (tokensBy u profile s) ++ drop i row =
+        sets-eq (records (tokensBy u profile s)) row 0 (omega (arith, k, r)) ∙ rw (zero-add, k, ← n) in
         record { count = n; row-is = sym e ∙ f .same ∙ g }

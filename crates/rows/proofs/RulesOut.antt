@@ -20,7 +20,7 @@ use Rattle.cutters.specs.Records.{recordWords}
 use Rattle.lexer.specs.Kinds.{marks, markIn}
 use Rattle.lexer.specs.Cut.{isDigit, advance, nextToken, tokens}
 use Rattle.lexer.specs.Unicode.{unicode}
-use Rattle.lexer.specs.Promises.{tokensOf, answerOf}
+use Rattle.lexer.specs.Promises.{tokens3, tokensOf, answerOf}
 use Rattle.rows.specs.Rows.{records, rowed, Rowed, Bridged}
 use Rattle.rows.specs.declared.Token.{Token}
 
@@ -32,7 +32,7 @@ seven = record { kind = 7; len = 7; suffix = 7 }
 
 -- a semicolon in a row of two records: the first is its token, and the second is as it was
 leaves : rowed semicolon 0 (seven ∷ seven ∷ []) ≡ record { kind = 10; len = 1; suffix = 0 } ∷ seven ∷ []
-unfolding all pieces cut eat inTable xidStart xidContinue emoji table behind begins joined readBy first next chars width goodBytes validUpTo byteLength skip checkText checkCut whitespace marks markIn unicode tokensOf answerOf isDigit advance nextToken tokens records rowed
+unfolding all pieces cut eat inTable xidStart xidContinue emoji table behind begins joined readBy first next chars width goodBytes validUpTo byteLength skip checkText checkCut whitespace marks markIn unicode tokens3 tokensOf answerOf isDigit advance nextToken tokens records rowed
 leaves = refl
 
 -- nothing written

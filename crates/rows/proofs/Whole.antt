@@ -6,11 +6,10 @@ use mathlib.Core.Path.{_≡_, refl, sym, _∙_, subst}
 use mathlib.Core.Bool.{true, false}
 use mathlib.Core.List.{List, [], _∷_}
 use lib.Dec.{ltb, eqb}
-use lib.ListN.{length, take}
+use lib.ListN.{length, take, drop}
 use borrow.Author.Tests.{ltb-false, lt-ltb, le-ltb, eqb-true, eqb-false, eq-eqb, ne-eqb}
 use Rattle.lists.proofs.Bools.{by-test}
 use Rattle.unicode.specs.Utf8.{chars, validUpTo}
-use Rattle.unicode.specs.Text.{left}
 use Rattle.unicode.specs.Ranges.{flat}
 use Rattle.ucd.specs.Ucd.{xidStart, xidContinue, emoji}
 use Rattle.text.specs.Answer.{Answered, done, roomTooSmall, longest, checkText, checkCut}
@@ -19,7 +18,7 @@ use Rattle.cutters.specs.Records as definitions
 use Rattle.cutters.specs.Records.{recordWords}
 use Rattle.lexer.specs.Cut.{Letters, tokens}
 use Rattle.lexer.specs.Unicode.{unicode, lent}
-use Rattle.lexer.specs.Promises.{tokensOf, answerOf, Listed, run, front, TokenAt}
+use Rattle.lexer.specs.Promises.{tokens3, tokensOf, answerOf, Listed, run, front, TokenAt, tokensBy}
 use Rattle.lexer.proofs.Unicode.{lent-is}
 use Rattle.lexer.proofs.Whole.{few-tokens}
 use Rattle.rows.specs.Rows.{recordOf, records, rowed, Rowed}
@@ -35,7 +34,7 @@ front-one (t ∷ ts) = refl
 -- the first of a run of one
 first-run : (u : Letters) (profile : ℕ) (s : List ℕ) (at : ℕ) → length s ≤ longest → recordOf (front (run u profile s at 1)) ≡ recordAt u profile s at
 unfolding run
-first-run u profile s at short = rw (le-ltb longest (length s) short, front-one (tokens u profile (left s at)))
+first-run u profile s at short = rw (le-ltb longest (length s) short, front-one (tokensBy u profile (drop at s)))
 
 -- what `token_at` says, as a record
 pub token-at : {u : Letters} {profile : ℕ} {s : List ℕ} {at kind suffixAt end : ℕ} → length s ≤ longest → TokenAt u profile s at kind suffixAt end →
@@ -76,13 +75,13 @@ told-need {s} {profile = profile} {number} l n =
 
 module _ {s : List ℕ} {profile room number also : ℕ} where
   pub judged-roomy : length s ≤ room → Answered (checkCut s profile) number also → Judged s profile room number also
-  unfolding answerOf tokensOf
+  unfolding answerOf tokens3 tokensOf
   judged-roomy h a =
       by-test (eqb (checkCut s profile .0) done)
       (λ t.
       let z : number ≡ done = a .number-is ∙ eqb-true _ _ t in
       record {
-        number-is = rw (t, thirds room, le-ltb room (length (tokens unicode profile (chars s))) (omega (arith, few-tokens unicode profile s))) z;
+        number-is = rw (t, thirds room, le-ltb room (length (tokensBy unicode profile s)) (omega (arith, few-tokens unicode profile s))) z;
         also-is = λ n. absurd (n z);
       })
       (λ t. record { number-is = rw t (a .number-is); also-is = λ n. rw t (a .also-is) })
@@ -142,8 +141,8 @@ module _ {s : List ℕ} {profile number also : ℕ} (row : List Token) (j : Judg
       ))
       (λ t. let e : number ≡ checkCut s profile .0 = rw t at (j .number-is) in absurd (eqb-false _ _ t (sym e ∙ z)))
 
-  pub judged-passed : (length s ≤ longest) × (length (tokens unicode profile (chars s)) ≤ length row)
-  unfolding tokensOf
+  pub judged-passed : (length s ≤ longest) × (length (tokensBy unicode profile s) ≤ length row)
+  unfolding tokens3 tokensOf
   judged-passed = (cut-accepted s profile (passes .0) .text .short, passes .1)
 
   answer-is : answerOf s profile (recordWords * length row) ≡ (done, need s profile)
@@ -151,9 +150,9 @@ module _ {s : List ℕ} {profile number also : ℕ} (row : List Token) (j : Judg
   answer-is = rw (eq-eqb _ _ (passes .0), thirds (length row), le-ltb (length row) (need s profile) (passes .1))
 
   pub rowed-done : {n number′ also′ : ℕ} {row′ : List Token} → Filled unicode profile s row n row′ → Answered (done, n) number′ also′ → Rowed s profile row number′ also′ row′
-  unfolding tokensOf rowed
+  unfolding tokens3 tokensOf rowed
   rowed-done {n} f a =
-      let k : length (records (tokens unicode profile (chars s))) ≡ n = length-records (tokens unicode profile (chars s)) ∙ sym (f .count) in
+      let k : length (records (tokensBy unicode profile s)) ≡ n = length-records (tokensBy unicode profile s) ∙ sym (f .count) in
       record {
         answer = rw answer-is (record { number-is = a .number-is; also-is = a .also-is ∙ f .count });
         row-is = rw (answer-is, k) (f .row-is);
@@ -164,8 +163,8 @@ module _ {starts mores emojis : List ℕ} (a : starts ≡ flat xidStart) (b : mo
   letters-are : lent starts mores emojis ≡ unicode
   letters-are = rw (a, b, c) lent-is
 
-  pub roomy-letters : (profile m : ℕ) (s : List ℕ) → length (tokens unicode profile (chars s)) ≤ m → length (tokens (lent starts mores emojis) profile (chars s)) ≤ m
-  roomy-letters profile m s h = subst (λ (u : Letters). length (tokens u profile (chars s)) ≤ m) (sym letters-are) h
+  pub roomy-letters : (profile m : ℕ) (s : List ℕ) → length (tokensBy unicode profile s) ≤ m → length (tokens (lent starts mores emojis) profile (chars s)) ≤ m
+  roomy-letters profile m s h = subst (λ (u : Letters). length (tokensBy u profile s) ≤ m) (sym letters-are) h
 
   pub filled-letters : {profile n : ℕ} {s : List ℕ} {row row′ : List Token} → Filled (lent starts mores emojis) profile s row n row′ → Filled unicode profile s row n row′
   filled-letters {profile} {n} {s} {row} {row′} f = subst (λ (u : Letters). Filled u profile s row n row′) letters-are f

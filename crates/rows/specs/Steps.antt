@@ -4,10 +4,9 @@ use Prim.Native.Nat.{ℕ, zero, suc, _+_, _*_}
 use mathlib.Core.Path.{_≡_}
 use mathlib.Core.List.{List, _++_}
 use lib.ListN.{length, drop, set}
-use Rattle.unicode.specs.Text.{left}
 use Rattle.text.specs.Answer.{done}
 use Rattle.cutters.specs.Records.{recordWords}
-use Rattle.lexer.specs.Cut.{Letters, tokens}
+use Rattle.lexer.specs.Cut.{Letters}
 use Rattle.lexer.specs.Promises.{answerOf, tokensBy, front}
 use Rattle.rows.specs.Rows.{recordOf, records}
 use Rattle.rows.specs.declared.Token.{Token}
@@ -23,7 +22,7 @@ pub record Judged (s : List ℕ) (profile room number also : ℕ) : Type 0 where
 
 -- the record of the token at a place; where there is none, a record of noughts
 abbrev pub recordAt : Letters → ℕ → List ℕ → ℕ → Token
-recordAt u profile s at = recordOf (front (tokens u profile (left s at)))
+recordAt u profile s at = recordOf (front (tokensBy u profile (drop at s)))
 
 -- the place behind i tokens, the record there, and the row when those before it are stored
 abbrev pub placeAfter : Letters → ℕ → List ℕ → ℕ → ℕ

@@ -2,14 +2,13 @@
 ghost use mathlib.Core.Path.{_≡_};
 ghost use Prim.Native.Nat.{_≤_, min};
 ghost use lib.ListN.{length};
-ghost use Rattle.unicode.specs.Utf8.{chars};
 ghost use Rattle.unicode.specs.Ranges.{flat};
 ghost use Rattle.ucd.specs.Ucd.{xidStart, xidContinue, emoji};
 ghost use Rattle.text.specs.Answer.{Answered, done, longest};
-ghost use Rattle.lexer.specs.Cut.{tokens};
 ghost use Rattle.lexer.specs.Unicode.{lent};
 ghost use Rattle.rows.specs.Rows.{Rowed, Bridged};
 ghost use Rattle.rows.specs.Steps.{Judged, recordAt, Filled};
+ghost use Rattle.lexer.specs.Promises.{tokensBy};
 use lexer::list::token_at;
 use lexer::list::tokenize;
 use text::Answer;
@@ -76,7 +75,7 @@ fn fill<'a, 'r, 't>(
     more: &'t [u32],
     emoji: &'t [u32],
 ) -> usize
-    requires { ⌜ (length (now text) ≤ longest) × (length (tokens (lent (now start) (now more) (now emoji)) profile (chars (now text))) ≤ length (now row)) ⌝ }
+    requires { ⌜ (length (now text) ≤ longest) × (length (tokensBy (lent (now start) (now more) (now emoji)) profile (now text)) ≤ length (now row)) ⌝ }
     ensures { λ r. ⌜ Filled (lent (now (start .entry)) (now (more .entry)) (now (emoji .entry))) profile (now (text .entry)) (now (row .entry)) r (now (row .exit)) ⌝ }
 {
     let mut i: usize = 0;

@@ -15,7 +15,7 @@ use Rattle.letters.specs.Chars.{whitespace}
 use Rattle.lexer.specs.Kinds.{marks, markIn}
 use Rattle.lexer.specs.Cut.{notLf, isDigit, isHexDigit, block, slash, digits, exponent, exponentOf, point, fraction, based, number, isUnit, quoted, quoteKind, agree, pound, name, word, annotated, hardware, identifier, numberSuffix, advance, nextToken, tokens}
 use Rattle.lexer.specs.Unicode.{unicode}
-use Rattle.lexer.specs.Promises.{tokensOf}
+use Rattle.lexer.specs.Promises.{tokens3, tokensOf}
 use Rattle.tokens.specs.Members.{isCounted, counted, membersBy, membersOf}
 use Rattle.same.specs.Compare.{Sight, Comparison, sameBytes, alike, sights, same, different, oldRefused, newRefused, partedBy, refusedBy, compared, showing}
 use Rattle.same.specs.Compare as compare
@@ -45,5 +45,5 @@ pairs =
     record { old = 0x3B ∷ []; new = 0xFF ∷ []; answer = refusedBy newRefused (3, 0) } ∷ []
 
 pub all-pairs : Each (λ (p : Pair). compared 0 (p .old) (p .new) ≡ p .answer) pairs
-unfolding all pieces cut eat inTable xidStart xidContinue emoji table behind begins joined readBy first next chars width goodBytes validUpTo byteLength skip checkText checkCut whitespace marks markIn notLf isDigit isHexDigit block slash digits exponent exponentOf point fraction based number isUnit quoted quoteKind agree pound name word annotated hardware identifier numberSuffix advance nextToken tokens unicode tokensOf isCounted counted membersBy membersOf sameBytes alike compare.agree sights partedBy compared
+unfolding all pieces cut eat inTable xidStart xidContinue emoji table behind begins joined readBy first next chars width goodBytes validUpTo byteLength skip checkText checkCut whitespace marks markIn notLf isDigit isHexDigit block slash digits exponent exponentOf point fraction based number isUnit quoted quoteKind agree pound name word annotated hardware identifier numberSuffix advance nextToken tokens unicode tokens3 tokensOf isCounted counted membersBy membersOf sameBytes alike compare.agree sights partedBy compared
 all-pairs = (refl, (refl, (refl, (refl, (refl, (refl, (refl, tt)))))))

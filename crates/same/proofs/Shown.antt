@@ -5,17 +5,29 @@ use native.Mathlib.Omega.{arith}
 use mathlib.Core.Path.{_≡_, refl}
 use mathlib.Core.Bool.{Bool, true, false}
 use mathlib.Core.List.{List, [], _∷_}
-use lib.ListN.{length, drop, getD}
+use lib.ListN.{length, drop, getD, length-drop}
 use lib.Seq.{drop-drop}
 use Rattle.lists.specs.All.{Each}
+use Rattle.lists.proofs.Cut.{by-length}
 use Rattle.cutters.specs.Records.{Token}
 use Rattle.lexer.specs.Promises.{tokensOf}
-use Rattle.tokens.specs.Tiling.{Formed}
-use Rattle.tokens.proofs.Tiling.{tiles}
 use Rattle.tokens.specs.Members.{Member, isCounted, memberOf, counted, membersBy, membersOf}
+use Rattle.renewal.specs.Rules.{Keyable}
+use Rattle.renewal.proofs.Keyable.{profile-keyable}
 use Rattle.same.specs.Compare.{Sight, sights, endOf, shows}
 
-shows-from : (s : List ℕ) (at : ℕ) (ts : List Token) → Each Formed ts → shows s (sights at ts) (counted (drop at s) ts)
+-- a token has at least one byte
+abbrev Some : Token → Type 0
+Some t = 1 ≤ t .len
+
+each-some : {cutter : List ℕ → List Token} → Keyable cutter → (s : List ℕ) → Each Some (cutter s)
+each-some {cutter} k =
+    by-length (λ (s : List ℕ). Each Some (cutter s)) (rw (k .none) tt)
+    (λ a s ih.
+    let f = k .first a s in
+    rw (f .view) (f .some, ih (drop (f .token .len) (a ∷ s)) (omega (arith, length-drop (f .token .len) (a ∷ s), f .some, f .within))))
+
+shows-from : (s : List ℕ) (at : ℕ) (ts : List Token) → Each Some ts → shows s (sights at ts) (counted (drop at s) ts)
 unfolding shows sights counted
 shows-from s at [] f = tt
 shows-from s at (t ∷ ts) f =
@@ -25,13 +37,13 @@ shows-from s at (t ∷ ts) f =
     go : (b : Bool) → shows s (sights (at + t .len) ts) (counted (drop (t .len) (drop at s)) ts) →
         shows s (elim b [ true ↦ record { kind = t .kind; start = at; len = t .len } ∷ sights (at + t .len) ts | false ↦ sights (at + t .len) ts ])
         (elim b [ true ↦ memberOf (drop at s) t ∷ counted (drop (t .len) (drop at s)) ts | false ↦ counted (drop (t .len) (drop at s)) ts ])
-    go true r = (refl, refl, f .0 .some, refl, r)
+    go true r = (refl, refl, f .0, refl, r)
     go false r = r
 
 -- ---- EACH IS SHOWN, one by one, and nothing else is
 pub all-shown : (profile : ℕ) (s : List ℕ) → shows s (sights 0 (tokensOf profile s)) (membersOf profile s)
 unfolding membersOf membersBy
-all-shown profile s = shows-from s 0 (tokensOf profile s) (tiles profile s .each)
+all-shown profile s = shows-from s 0 (tokensOf profile s) (each-some (profile-keyable profile) s)
 
 -- ---- the end
 some-at : (s : List ℕ) (vs : List Sight) (ms : List Member) (n : ℕ) (d : Sight) → shows s vs ms → n < length ms → 1 ≤ getD vs n d .len

@@ -14,7 +14,7 @@ use Rattle.ucd.specs.Ucd.{xidStart, xidContinue, emoji}
 use Rattle.text.specs.Answer.{Answered, done, checkCut}
 use Rattle.lexer.specs.Cut.{Letters}
 use Rattle.lexer.specs.Unicode.{lent}
-use Rattle.lexer.specs.Promises.{tokensOf, tokensBy}
+use Rattle.lexer.specs.Promises.{tokens3, tokensOf, tokensBy}
 use Rattle.lexer.proofs.Unicode.{lent-is}
 use Rattle.tokens.specs.Members.{Member, membersOf}
 use Rattle.renewal.specs.Key.{keyOfText}
@@ -26,7 +26,7 @@ use Rattle.same.proofs.Alike.{agree-all, agree-self}
 pub lent-parted : (profile : ℕ) (s s′ : List ℕ) {verdict number also agreed k o l k′ o′ l′ : ℕ} →
     Compared (partedBy (tokensBy (lent (flat xidStart) (flat xidContinue) (flat emoji)) profile) s s′) verdict number also agreed k o l k′ o′ l′ →
     Compared (partedBy (tokensOf profile) s s′) verdict number also agreed k o l k′ o′ l′
-unfolding tokensOf
+unfolding tokensOf tokens3
 lent-parted profile s s′ {verdict} {number} {also} {agreed} {k} {o} {l} {k′} {o′} {l′} c =
     subst (λ (u : Letters). Compared (partedBy (tokensBy u profile) s s′) verdict number also agreed k o l k′ o′ l′) lent-is c
 

@@ -19,7 +19,7 @@ use Rattle.cutters.specs.Records.{flatFrom}
 use Rattle.lexer.specs.Kinds.{marks, markIn}
 use Rattle.lexer.specs.Cut.{notLf, isDigit, isHexDigit, block, slash, digits, exponent, exponentOf, point, fraction, based, number, isUnit, quoted, withoutLf, twice, quoteKind, agree, identifier, numberSuffix, advance, nextToken, tokens}
 use Rattle.lexer.specs.Unicode.{unicode}
-use Rattle.lexer.specs.Promises.{tokensOf, answerOf, listed, Listed}
+use Rattle.lexer.specs.Promises.{tokens3, tokensOf, answerOf, listed, Listed}
 
 -- ---- texts: a semicolon, a comma, two semicolons, 1.e5; a NUL in a line comment, a block comment and a quoted text
 abbrev semicolon : List ℕ
@@ -60,7 +60,7 @@ leaves :
     × (Only line-nul room 0 1 (1 ∷ 4 ∷ 0 ∷ 7 ∷ 7 ∷ 7 ∷ []))
     × (Only block-nul room 0 1 (2 ∷ 5 ∷ 0 ∷ 7 ∷ 7 ∷ 7 ∷ []))
     × (Only quote-nul room 0 1 (57 ∷ 3 ∷ 3 ∷ 7 ∷ 7 ∷ 7 ∷ []))
-unfolding all pieces cut eat inTable xidStart xidContinue emoji table behind begins joined readBy first next chars width goodBytes validUpTo byteLength skip checkText checkCut whitespace marks markIn unicode tokensOf answerOf listed notLf isDigit isHexDigit block slash digits exponent exponentOf point fraction based number isUnit quoted withoutLf twice quoteKind agree identifier numberSuffix advance nextToken tokens flatFrom
+unfolding all pieces cut eat inTable xidStart xidContinue emoji table behind begins joined readBy first next chars width goodBytes validUpTo byteLength skip checkText checkCut whitespace marks markIn unicode tokens3 tokensOf answerOf listed notLf isDigit isHexDigit block slash digits exponent exponentOf point fraction based number isUnit quoted withoutLf twice quoteKind agree identifier numberSuffix advance nextToken tokens flatFrom
 leaves = ((refl, refl), (refl, refl), (refl, refl), (refl, refl), (refl, refl), (refl, refl), (refl, refl), (refl, refl))
 
 -- an exponent for 1.e5, so that no suffix is left

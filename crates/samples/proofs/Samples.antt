@@ -14,7 +14,7 @@ use Rattle.letters.specs.Chars.{whitespace}
 use Rattle.cutters.specs.Records.{flatFrom}
 use Rattle.lexer.specs.Kinds.{marks, markIn}
 use Rattle.lexer.specs.Unicode.{unicode}
-use Rattle.lexer.specs.Promises.{tokensOf, answerOf, listed}
+use Rattle.lexer.specs.Promises.{tokens3, tokensOf, answerOf, listed}
 use Rattle.modes.specs.Modes.{isSingle, isRaw, charactersShouldBeAscii}
 use Rattle.unescape.specs.Escapes.{toDigit, hexDigit, hexEscape, firstDigit, moreDigits, codePoint, closing, braced, unicodeEscape, simple, escape, asciiCheck}
 use Rattle.unescape.specs.Bodies.{alone, oneChar, charOrByte, items, itemsOf, flat as flatItems}
@@ -26,6 +26,6 @@ use Rattle.samples.specs.Samples.{Sample, does, samples}
 use Rattle.lexer.specs.Cut.{notLf, isDigit, isHexDigit, block, slash, digits, exponent, exponentOf, point, fraction, based, number, isUnit, quoted, withoutLf, twice, quoteKind, agree, pound, name, word, annotated, hardware, identifier, numberSuffix, advance, nextToken, tokens}
 
 pub all-samples : Each (λ (x : Sample). does (x .call) ≡ (x .answer, x .after)) samples
-unfolding isCounted counted membersBy membersOf bodyLength lowBytes nextText flatten texts encode keyOf keyOfText keyAnswer keyed isSingle isRaw charactersShouldBeAscii toDigit hexDigit hexEscape firstDigit moreDigits codePoint closing braced unicodeEscape simple escape asciiCheck alone oneChar charOrByte items itemsOf flatItems bodyAnswer bodyListed pieces cut eat inTable xidStart xidContinue emoji table behind begins joined readBy first next chars width goodBytes validUpTo byteLength skip checkText checkCut whitespace marks markIn unicode tokensOf answerOf listed notLf isDigit isHexDigit block slash digits exponent exponentOf point fraction based number isUnit quoted all withoutLf twice quoteKind agree pound name word annotated hardware identifier numberSuffix advance nextToken tokens flatFrom samples
+unfolding isCounted counted membersBy membersOf bodyLength lowBytes nextText flatten texts encode keyOf keyOfText keyAnswer keyed isSingle isRaw charactersShouldBeAscii toDigit hexDigit hexEscape firstDigit moreDigits codePoint closing braced unicodeEscape simple escape asciiCheck alone oneChar charOrByte items itemsOf flatItems bodyAnswer bodyListed pieces cut eat inTable xidStart xidContinue emoji table behind begins joined readBy first next chars width goodBytes validUpTo byteLength skip checkText checkCut whitespace marks markIn unicode tokens3 tokensOf answerOf listed notLf isDigit isHexDigit block slash digits exponent exponentOf point fraction based number isUnit quoted all withoutLf twice quoteKind agree pound name word annotated hardware identifier numberSuffix advance nextToken tokens flatFrom samples
 all-samples =
     (refl, (refl, (refl, (refl, (refl, (refl, (refl, (refl, (refl, (refl, (refl, (refl, (refl, (refl, (refl, (refl, (refl, (refl, tt))))))))))))))))))

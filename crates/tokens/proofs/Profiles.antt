@@ -22,7 +22,7 @@ use Rattle.lexer.specs.Kinds.{ident, invalidIdent}
 use Rattle.cutters.specs.Records.{Token, total}
 use Rattle.lexer.specs.Cut.{Letters, peek, notLf, agree, pragmaWord, wideEmoji, name, word, advance, nextToken, tokens}
 use Rattle.lexer.specs.Unicode.{unicode}
-use Rattle.lexer.specs.Promises.{tokensOf}
+use Rattle.lexer.specs.Promises.{tokens3}
 use Rattle.lexer.proofs.Shapes.{name-part, tokens-nil}
 use Rattle.tokens.specs.Profiles.{bare, bareIn, pragmaLine, Parting}
 use Rattle.tokens.proofs.First.{tokens-first, first-some}
@@ -112,14 +112,14 @@ module _ (r : List ℕ) where
 
 -- ---- the two lists, from the first token on
 record Related (s : List ℕ) : Type 0 where
-  same : bareIn s (tokensOf 0 s) ≡ false → tokensOf 1 s ≡ tokensOf 0 s
-  parting : bareIn s (tokensOf 0 s) ≡ true → Parting s (tokensOf 0 s) (tokensOf 1 s)
+  same : bareIn s (tokens3 0 s) ≡ false → tokens3 1 s ≡ tokens3 0 s
+  parting : bareIn s (tokens3 0 s) ≡ true → Parting s (tokens3 0 s) (tokens3 1 s)
 
 -- one token that is not bare in front of both
-later : (s : List ℕ) (t : Token) → bare s t ≡ false → tokensOf 0 s ≡ t ∷ tokensOf 0 (drop (t .len) s) → tokensOf 1 s ≡ t ∷ tokensOf 1 (drop (t .len) s) → Related (drop (t .len) s) → Related s
+later : (s : List ℕ) (t : Token) → bare s t ≡ false → tokens3 0 s ≡ t ∷ tokens3 0 (drop (t .len) s) → tokens3 1 s ≡ t ∷ tokens3 1 (drop (t .len) s) → Related (drop (t .len) s) → Related s
 later s t b z o h =
     let rest = drop (t .len) s in
-    let e : bareIn s (tokensOf 0 s) ≡ bareIn rest (tokensOf 0 rest) = ap (bareIn s) z ∙ rw b in
+    let e : bareIn s (tokens3 0 s) ≡ bareIn rest (tokens3 0 rest) = ap (bareIn s) z ∙ rw b in
     record {
       same = λ n. o ∙ ap (λ (l : List Token). t ∷ l) (h .same (sym e ∙ n)) ∙ sym z;
       parting = λ y.
@@ -138,7 +138,7 @@ later s t b z o h =
     }
 
 -- a bare pragma in front of the one, and a Pragma of the line in front of the other
-here-parting : (s : List ℕ) (t : Token) (after other : List Token) → bare s t ≡ true → tokensOf 0 s ≡ t ∷ after → tokensOf 1 s ≡ pragmaLine s ∷ other → Related s
+here-parting : (s : List ℕ) (t : Token) (after other : List Token) → bare s t ≡ true → tokens3 0 s ≡ t ∷ after → tokens3 1 s ≡ pragmaLine s ∷ other → Related s
 here-parting s t after other b z o =
     record {
       same = λ n. absurd (false≢true (sym n ∙ ap (bareIn s) z ∙ rw b));
@@ -146,7 +146,7 @@ here-parting s t after other b z o =
     }
 
 step : (a : ℕ) (s : List ℕ) → ((l : List ℕ) → length l ≤ length s → Related l) → Related (a ∷ s)
-unfolding tokensOf nextToken
+unfolding tokens3 nextToken
 step a s ih =
     let c = first (a ∷ s) .0 in
     let t = chars (drop (first (a ∷ s) .1) (a ∷ s)) in
@@ -157,17 +157,17 @@ step a s ih =
     let r = drop 6 (c ∷ t) in
     here-parting (a ∷ s) (nextToken unicode 0 0x70 (letters r) .0) _ _ (zero-bare r (a ∷ s) (v ∙ e))
     (tokens-first unicode 0 0x70 (letters r) (a ∷ s) (v ∙ e))
-    (tokens-first unicode 1 0x70 (letters r) (a ∷ s) (v ∙ e) ∙ ap (λ (x : Token). x ∷ tokensOf 1 (drop (x .len) (a ∷ s))) (one-is r (a ∷ s) (v ∙ e))))
+    (tokens-first unicode 1 0x70 (letters r) (a ∷ s) (v ∙ e) ∙ ap (λ (x : Token). x ∷ tokens3 1 (drop (x .len) (a ∷ s))) (one-is r (a ∷ s) (v ∙ e))))
     (λ n.
     let k = nextToken unicode 0 c t .0 in
     let same : nextToken unicode 1 c t .0 ≡ k = rw (elsewhere unicode c t n) in
-    let one : tokensOf 1 (a ∷ s) ≡ k ∷ tokensOf 1 (drop (k .len) (a ∷ s)) =
-    tokens-first unicode 1 c t (a ∷ s) v ∙ ap (λ (x : Token). x ∷ tokensOf 1 (drop (x .len) (a ∷ s))) same in
+    let one : tokens3 1 (a ∷ s) ≡ k ∷ tokens3 1 (drop (k .len) (a ∷ s)) =
+    tokens-first unicode 1 c t (a ∷ s) v ∙ ap (λ (x : Token). x ∷ tokens3 1 (drop (x .len) (a ∷ s))) same in
     later (a ∷ s) k (not-bare (a ∷ s) k (ap (λ (l : List ℕ). eqb (agree pragmaWord l) (length pragmaWord)) v ∙ n)) (tokens-first unicode 0 c t (a ∷ s) v) one
     (ih (drop (k .len) (a ∷ s)) (omega (arith, length-drop (k .len) (a ∷ s), first-some unicode 0 c t))))
 
-no-tokens : (profile : ℕ) → tokensOf profile [] ≡ []
-unfolding tokensOf
+no-tokens : (profile : ℕ) → tokens3 profile [] ≡ []
+unfolding tokens3
 no-tokens profile = ap (tokens unicode profile) chars-nil ∙ tokens-nil unicode profile
 
 related : (s : List ℕ) → Related s
@@ -177,9 +177,9 @@ related =
     step
 
 -- ---- THE THEOREM: where no Ident or InvalidIdent of profile 0's list begins with the bytes `pragma`, the two lists are equal
-pub same-lists : (s : List ℕ) → bareIn s (tokensOf 0 s) ≡ false → tokensOf 1 s ≡ tokensOf 0 s
+pub same-lists : (s : List ℕ) → bareIn s (tokens3 0 s) ≡ false → tokens3 1 s ≡ tokens3 0 s
 same-lists s = related s .same
 
 -- and else they agree up to the first that does, and there profile 1 has a Pragma to just before the next LF, or to the end
-pub parting-lists : (s : List ℕ) → bareIn s (tokensOf 0 s) ≡ true → Parting s (tokensOf 0 s) (tokensOf 1 s)
+pub parting-lists : (s : List ℕ) → bareIn s (tokens3 0 s) ≡ true → Parting s (tokens3 0 s) (tokens3 1 s)
 parting-lists s = related s .parting

@@ -18,7 +18,7 @@ use Rattle.unicode.proofs.Valid.{width-some}
 use Rattle.lexer.specs.Kinds.{isPlain, isLiteral}
 use Rattle.lexer.specs.Cut.{Letters, Piece, advance, nextToken, tokens}
 use Rattle.lexer.specs.Unicode.{unicode}
-use Rattle.lexer.specs.Promises.{tokensOf}
+use Rattle.lexer.specs.Promises.{tokens3}
 use Rattle.lexer.proofs.Shapes.{Shape, plain, literal, advance-shape, ends-advance, tokens-nil, tokens-cons}
 use Rattle.tokens.specs.Tiling.{Formed, Tiles}
 
@@ -64,6 +64,6 @@ module _ (u : Letters) (profile : ℕ) where
 
 -- ---- the theorem: each token of a text has a kind that is listed and at least one byte, the suffix start of its kind, and the lengths add
 -- up to the text's
-pub tiles : (profile : ℕ) (s : List ℕ) → Tiles (tokensOf profile s) (length s)
-unfolding tokensOf
+pub tiles : (profile : ℕ) (s : List ℕ) → Tiles (tokens3 profile s) (length s)
+unfolding tokens3
 tiles profile s = rw (← bytes-chars s) (tiles-chars unicode profile (chars s))

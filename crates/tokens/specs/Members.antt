@@ -7,7 +7,7 @@ use lib.Dec.{eqb}
 use lib.ListN.{take, drop}
 use Rattle.lexer.specs.Kinds.{lineComment, blockComment, whitespaceKind}
 use Rattle.cutters.specs.Records.{Token}
-use Rattle.lexer.specs.Promises.{tokensOf}
+use Rattle.lexer.specs.Promises.{tokens3, tokensOf}
 
 pub record Member : Type 0 where
   pub kind : ℕ
@@ -36,6 +36,9 @@ counted s (t ∷ ts) =
 unfoldable pub membersBy : (List ℕ → List Token) → List ℕ → List Member
 membersBy cutter s = counted s (cutter s)
 
--- of the profiles' own cutter
+-- of OpenQASM 3, and by the profile
+unfoldable pub members3 : ℕ → List ℕ → List Member
+members3 profile = membersBy (tokens3 profile)
+
 unfoldable pub membersOf : ℕ → List ℕ → List Member
 membersOf profile = membersBy (tokensOf profile)

@@ -1,21 +1,20 @@
 use native.Mathlib.Omega.{arith}
 use Prim.Native.Nat.{_*_}
 use mathlib.Core.Path.{_≡_}
-use lib.ListN.{length}
-use Rattle.unicode.specs.Text.{left}
+use lib.ListN.{length, drop}
 use Rattle.cutters.specs.Records.{recordWords}
-use Rattle.lexer.specs.Cut.{tokens}
 use Rattle.lexer.specs.Unicode.{lent}
 use Rattle.lexer.proofs.Whole.{Counting, counting-none, count-add, count-on, count-less, count-end}
 use borrow.Author.Needs.{needs}
 use Rattle.lexer.proofs.list.count.Statement.{statement}
 use Rattle.lexer.proofs.list.count.Tie as tie
+use Rattle.lexer.specs.Promises.{tokensBy}
 
 abbrev Inv-loop : tie.InvT-loop
 Inv-loop text profile start more emoji list₀ at₀ n₀ list at n = (length list ≡ 64 * recordWords) × Counting (lent start more emoji) profile text at n
 
 abbrev μ-loop : tie.MeasureT-loop
-μ-loop text profile start more emoji list₀ at₀ n₀ list at n = length (tokens (lent start more emoji) profile (left text at))
+μ-loop text profile start more emoji list₀ at₀ n₀ list at n = length (tokensBy (lent start more emoji) profile (drop at text))
 
 loop-holds : tie.Need-loop-holds Inv-loop μ-loop
 loop-holds c = search (needs, counting-none)
