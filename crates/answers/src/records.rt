@@ -118,7 +118,7 @@ fn no_body(cut: Answer) -> Answer {
 
 // body: the items of the body of a token.
 fn body(text: &[u8], asked: Asked, list: &mut [u32]) -> Answer {
-    let cut = lexer::list::tokenize(text, asked.first, list);
+    let cut = listing::tokenize(text, asked.first, list);
     let part = token_body(list, cut, asked.second as usize);
     if !part.right {
         return no_body(cut);
@@ -129,7 +129,7 @@ fn body(text: &[u8], asked: Asked, list: &mut [u32]) -> Answer {
 // tok and tokroom: the tokens. unescape and itemroom: the items.
 fn call(task: usize, text: &[u8], asked: Asked, list: &mut [u32]) -> Answer {
     match task {
-        tasks::TOK | tasks::TOKROOM => lexer::list::tokenize(text, asked.first, list),
+        tasks::TOK | tasks::TOKROOM => listing::tokenize(text, asked.first, list),
         tasks::BODY => body(text, asked, list),
         _ => unescape::unescape_literal(text, asked.first, list),
     }

@@ -1,7 +1,6 @@
 -- The token at a place, by its first character, as `search` takes the laws.
 -- Assumes nothing.
-use Prim.Native.Nat.{ℕ, _+_, _-_, _≤_, _<_, min, max}
-use native.Mathlib.Decide.{decLt}
+use Prim.Native.Nat.{ℕ, _+_, _-_, _<_}
 use native.Mathlib.Omega.{arith}
 use mathlib.Core.Path.{_≡_, refl, ap, sym, _∙_}
 use mathlib.Core.Bool.{Bool, true, false, cond, false≢true}
@@ -14,10 +13,11 @@ use Rattle.unicode.specs.Steps.{Place}
 use Rattle.unicode.proofs.Text.{decoded-point, from-place}
 use Rattle.ucd.specs.Properties.{asciiStart, testedIn}
 use Rattle.letters.specs.Chars.{whitespace, isWhitespace}
-use Rattle.lexer.specs.Kinds.{eof, whitespaceKind, invalidIdent, unknown, marks, markIn}
+use Rattle.lexer.specs.Kinds.{whitespaceKind, invalidIdent, unknown, marks, markIn}
 use Rattle.lexer.specs.Cut.{Letters, Piece, isDigit, slash, number, numberSuffix, identifier, quoted, quoteKind, word, pound, annotated, hardware, wideEmoji, goesOn, advance, advanceToken}
 use Rattle.lexer.specs.Unicode.{startIn, moreIn, emojiIn, lent}
-use Rattle.lexer.specs.Steps.{Parted, Quoted, Stands, Lettered, NumberAt, StringAt, LiteralAt, Plainly, Cuts, Advanced}
+use Rattle.lexer.proofs.Places.{advanced, none-at-end}
+use Rattle.lexer.specs.Steps.{Parted, Quoted, Stands, Lettered, NumberAt, StringAt, LiteralAt, Plainly, Cuts}
 use Rattle.lexer.proofs.Dispatch.{Late, digit-early, late-beyond}
 
 pub stands : {s : List ℕ} {at code wide next : ℕ} → Decoded s at code wide → at < length s → next ≡ at + wide → Stands s at code next
@@ -140,28 +140,4 @@ module _ (start more : ℕ → Bool) {s : List ℕ} {at kind suffixAt : ℕ} whe
     pub literal-number : (c ≡ 0x22 → ⊥) → NumberAt start more c s at kind suffixAt end → LiteralAt start more c s at kind suffixAt end
     literal-number n p = record { string = λ e. absurd (n e); number = λ h. p }
 
-pub advanced : {u : Letters} {profile : ℕ} {s : List ℕ} {at kind suffixAt end : ℕ} → at < length s → Cuts u profile s at kind suffixAt end → Advanced u profile s at kind suffixAt end
-advanced l c = record { before-end = λ h. c; at-end = λ h. absurd (omega arith) }
-
-pub none-at-end : {u : Letters} {profile : ℕ} {s : List ℕ} {at kind suffixAt end : ℕ} → length s ≤ at → kind ≡ eof → suffixAt ≡ at → end ≡ at → Advanced u profile s at kind suffixAt end
-none-at-end l k m e = record { before-end = λ h. absurd (omega arith); at-end = λ h. (k, m, e) }
-
 pub ruleset advancing = (stands, in-front, cut-slash, cut-space, cut-word, cut-pound, cut-annotated, cut-hardware, string-closed, string-open, literal-string, literal-number, cut-emoji, cut-unknown, late-beyond, told, advanced, none-at-end)
-
--- ---- what `advance_token` says of places, at every place: rules for `omega`
-module _ (u : Letters) (profile : ℕ) (s : List ℕ) (at kind suffixAt end : ℕ) (a : Advanced u profile s at kind suffixAt end) where
-  pub end-some : at + min 1 (length s - at) ≤ end
-  end-some =
-      elim (decLt at (length s)) [ yes h ↦ omega (arith, a .before-end h .some) | no n ↦ omega (arith, a .at-end (omega arith) .2) ]
-
-  pub end-within : end ≤ max at (length s)
-  end-within =
-      elim (decLt at (length s)) [ yes h ↦ omega (arith, a .before-end h .end-place .within) | no n ↦ omega (arith, a .at-end (omega arith) .2) ]
-
-  pub suffix-after : at ≤ suffixAt
-  suffix-after =
-      elim (decLt at (length s)) [ yes h ↦ a .before-end h .suffix-place .after | no n ↦ omega (arith, a .at-end (omega arith) .1) ]
-
-  pub suffix-within : suffixAt ≤ max at (length s)
-  suffix-within =
-      elim (decLt at (length s)) [ yes h ↦ omega (arith, a .before-end h .suffix-place .within) | no n ↦ omega (arith, a .at-end (omega arith) .1) ]

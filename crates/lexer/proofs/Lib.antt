@@ -8,7 +8,7 @@ pub mod Digits
 pub mod Names
 pub mod Bodies
 pub mod Dispatch
+pub mod Places
 pub mod Advancing
 pub mod Shapes
-pub mod Whole
 pub mod Unique

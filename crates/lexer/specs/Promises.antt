@@ -1,17 +1,15 @@
--- What `tokenize` answers, and what it leaves in the list that it was lent; what `cut_run` and `token_at` do; and what `is_ident` answers.
+-- The tokens of a text; and what `advance_token` and `is_ident` answer.
 -- Assumes nothing.
-use Prim.Native.Nat.{ℕ, _+_, _/_}
+use Prim.Native.Nat.{ℕ, _+_}
 use mathlib.Core.Path.{_≡_}
 use mathlib.Core.Bool.{cond}
 use mathlib.Core.List.{List, [], _∷_}
-use lib.Dec.{eqb, ltb}
-use lib.ListN.{length, take, drop}
-use Rattle.lists.specs.Over.{over}
+use lib.ListN.{drop}
 use Rattle.unicode.specs.Utf8.{chars}
-use Rattle.text.specs.Answer.{Answered, done, longest, checkText, checkCut, checkRoom, _andThen_}
+use Rattle.text.specs.Answer.{done, checkText, _andThen_}
 use Rattle.letters.specs.Chars.{isIdent}
 use Rattle.lexer.specs.Kinds.{eof}
-use Rattle.cutters.specs.Records.{Token, total, recordWords, flatFrom}
+use Rattle.cutters.specs.Records.{Token}
 use Rattle.lexer.specs.Cut.{Letters, tokens}
 use Rattle.lexer.specs.Unicode.{unicode}
 
@@ -26,43 +24,17 @@ tokens3 profile s = tokensBy unicode profile s
 unfoldable pub tokensOf : ℕ → List ℕ → List Token
 tokensOf profile s = tokens3 profile s
 
--- the number and what is also returned, for a list of so many words
-unfoldable pub answerOf : List ℕ → ℕ → ℕ → ℕ × ℕ
-answerOf s profile words = checkCut s profile andThen checkRoom (words / recordWords) (length (tokensOf profile s))
-
--- the words of the tokens, and behind them what stood there; a refusal changes nothing
-unfoldable pub listed : List ℕ → ℕ → List ℕ → List ℕ
-listed s profile list =
-    cond (eqb (answerOf s profile (length list) .0) done) (over (flatFrom s 0 (tokensOf profile s)) list) list
-
-pub record Listed (s : List ℕ) (profile : ℕ) (list : List ℕ) (number also : ℕ) (list′ : List ℕ) : Type 0 where
-  pub answer : Answered (answerOf s profile (length list)) number also
-  pub words : list′ ≡ listed s profile list
-
--- the tokens from a place on, as many as there is room for; of a text of more than 4,294,967,295 bytes, none
-unfoldable pub run : Letters → ℕ → List ℕ → ℕ → ℕ → List Token
-run u profile s from room = cond (ltb longest (length s)) [] (take room (tokensBy u profile (drop from s)))
-
--- what `cut_run` answers and leaves: the place behind them, how many they are; their words, and behind them what stood there
-pub record CutRun (u : Letters) (profile : ℕ) (s : List ℕ) (from : ℕ) (list : List ℕ) (at count : ℕ) (list′ : List ℕ) : Type 0 where
-  pub reached : at ≡ from + total (run u profile s from (length list / recordWords))
-  pub many : count ≡ length (run u profile s from (length list / recordWords))
-  pub words : list′ ≡ over (flatFrom s from (run u profile s from (length list / recordWords))) list
-
 -- the first of some tokens; of none, the end of the text, of no length
 unfoldable pub front : List Token → Token
 front [] = record { kind = eof; len = 0; suffix = 0 }
 front (t ∷ ts) = t
 
--- the token at a place, by a run of one
-abbrev pub tokenAt : Letters → ℕ → List ℕ → ℕ → Token
-tokenAt u profile s at = front (run u profile s at 1)
-
--- what `token_at` answers: its kind, where its suffix starts (of no literal, where it starts itself), and where it ends
-pub record TokenAt (u : Letters) (profile : ℕ) (s : List ℕ) (at kind suffixAt end : ℕ) : Type 0 where
-  pub kind-is : kind ≡ tokenAt u profile s at .kind
-  pub suffix-is : suffixAt ≡ at + tokenAt u profile s at .suffix
-  pub end-is : end ≡ at + tokenAt u profile s at .len
+-- what `advance_token` answers at a place of any bytes: the kind of the token there, where its suffix starts (of no literal, where it starts
+-- itself), and where it ends
+pub record Advanced (u : Letters) (profile : ℕ) (s : List ℕ) (at kind suffixAt end : ℕ) : Type 0 where
+  pub kind-is : kind ≡ front (tokensBy u profile (drop at s)) .kind
+  pub suffix-is : suffixAt ≡ at + front (tokensBy u profile (drop at s)) .suffix
+  pub end-is : end ≡ at + front (tokensBy u profile (drop at s)) .len
 
 -- whether a text is an identifier: 1 for yes, 0 for no
 unfoldable pub identified : List ℕ → ℕ × ℕ

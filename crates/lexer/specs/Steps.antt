@@ -1,22 +1,17 @@
 -- What the cutter's own functions answer, by the places that they reach.
 -- Assumes nothing.
-use Prim.Native.Nat.{ℕ, _+_, _/_, _≤_, _<_, min}
+use Prim.Native.Nat.{ℕ, _+_, _≤_, _<_, min}
 use mathlib.Core.Path.{_≡_}
 use mathlib.Core.Bool.{Bool, true, false, cond, _&&_, _||_}
 use mathlib.Core.List.{List, _∷_}
 use lib.Dec.{eqb}
-use lib.ListN.{length, take, drop, getD}
-use lib.Seq.{sets}
-use Rattle.text.specs.Steps.{Stored}
+use lib.ListN.{length, drop, getD}
 use Rattle.unicode.specs.Ranges.{inTable}
 use Rattle.unicode.specs.Steps.{Place}
 use Rattle.unicode.specs.Text.{left, skip}
 use Rattle.ucd.specs.Properties.{asciiStart}
 use Rattle.letters.specs.Chars.{isWhitespace}
-use Rattle.lexer.specs.Kinds.{eof}
-use Rattle.cutters.specs.Records.{Token, total, recordWords, flatFrom}
 use Rattle.lexer.specs.Cut.{Letters, agree, isBit, number, identifier, numberSuffix, quoted, quoteKind, advanceToken}
-use Rattle.lexer.specs.Promises.{tokensBy}
 
 -- a kind or a flag, and a place, by a definition that gives it and what is left
 pub record Parted {A : Type 0} (f : List ℕ → A × List ℕ) (s : List ℕ) (at : ℕ) (x : A) (end : ℕ) : Type 0 where
@@ -91,24 +86,3 @@ pub record Cuts (u : Letters) (profile : ℕ) (s : List ℕ) (at kind suffixAt e
   pub suffix-place : Place s at suffixAt (advanceToken u profile (left s at) .fromSuffix)
   pub end-place : Place s at end (advanceToken u profile (left s at) .rest)
   pub some : at < end
-
--- what `advance_token` answers: at or past the end there is no token
-pub record Advanced (u : Letters) (profile : ℕ) (s : List ℕ) (at kind suffixAt end : ℕ) : Type 0 where
-  pub before-end : (at < length s → Cuts u profile s at kind suffixAt end)
-  pub at-end : (length s ≤ at → (kind ≡ eof) × (suffixAt ≡ at) × (end ≡ at))
-
--- ---- a run of tokens, of a text that is not too long
-abbrev pub runFrom : Letters → ℕ → List ℕ → ℕ → ℕ → List Token
-runFrom u profile s from room = take room (tokensBy u profile (drop from s))
-
--- how many they are, where they end and what is left there, and the list with their words
-pub record Filled (u : Letters) (profile : ℕ) (s : List ℕ) (from : ℕ) (list : List ℕ) (at count : ℕ) (list′ : List ℕ) : Type 0 where
-  pub many : count ≡ length (runFrom u profile s from (length list / recordWords))
-  pub reached : at ≡ from + total (runFrom u profile s from (length list / recordWords))
-  pub rest : tokensBy u profile (drop at s) ≡ drop (length list / recordWords) (tokensBy u profile (drop from s))
-  pub words : list′ ≡ sets list 0 (flatFrom s from (runFrom u profile s from (length list / recordWords)))
-
--- the answer for a text that passed the checks, and the list
-abbrev pub StoredTokens : Letters → ℕ → List ℕ → List ℕ → ℕ → ℕ → List ℕ → Type 0
-StoredTokens u profile s list number also list′ =
-    Stored (length list / recordWords) (length (tokensBy u profile s)) (flatFrom s 0 (tokensBy u profile s)) list number also list′

@@ -2,7 +2,8 @@
 ghost use Prim.Native.Nat.{_≤_};
 ghost use lib.ListN.{length};
 ghost use Rattle.lexer.specs.Unicode.{startIn, moreIn, lent};
-ghost use Rattle.lexer.specs.Steps.{Stands, Lettered, NumberAt, StringAt, LiteralAt, Plainly, Cuts, Advanced};
+ghost use Rattle.lexer.specs.Steps.{Stands, Lettered, NumberAt, StringAt, LiteralAt, Plainly, Cuts};
+ghost use Rattle.lexer.specs.Promises.{Advanced};
 use crate::comments::Part;
 use crate::comments::slash;
 use crate::cursor::Cursor;

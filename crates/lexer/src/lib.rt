@@ -1,4 +1,4 @@
-// The lexer: how OpenQASM 3 text is cut into tokens.
+// The lexer: how OpenQASM 3 text is cut into tokens, one at a place.
 ghost use mathlib.Core.Path.{_≡_};
 ghost use Rattle.unicode.specs.Utf8.{chars};
 ghost use Rattle.text.specs.Answer.{Answered};
@@ -10,11 +10,11 @@ mod advance;
 mod comments;
 mod cursor;
 mod kinds;
-pub mod list;
 mod numbers;
 mod quotes;
 mod words;
 
+pub use advance::advance_token;
 use cursor::Cursor;
 use cursor::is_id_start_in;
 pub use letters::is_id_continue;

@@ -15,7 +15,7 @@ use Rattle.lexer.specs.Cut.{nextToken, tokens}
 use Rattle.lexer.specs.Unicode.{unicode}
 use Rattle.lexer.specs.Promises.{tokens3}
 use Rattle.lexer.proofs.Shapes.{tokens-nil}
-use Rattle.tokens.proofs.First.{tokens-first, first-some}
+use Rattle.lexer.proofs.Places.{tokens-first, next-some}
 use Rattle.cutters.specs.Cutter.{Cutter, cutBytes}
 use Rattle.locality.specs.First.{firstToken}
 
@@ -58,7 +58,7 @@ module _ (profile : ℕ) where
 
   -- that of OpenQASM 3 is one
   pub openQasm : Cutter
-  openQasm = record { next = firstToken profile; some = λ a s. first-some unicode profile (first (a ∷ s) .0) (chars (drop (first (a ∷ s) .1) (a ∷ s))); within = first-within }
+  openQasm = record { next = firstToken profile; some = λ a s. next-some unicode profile (first (a ∷ s) .0) (chars (drop (first (a ∷ s) .1) (a ∷ s))); within = first-within }
 
   pub tokens-cut : (s : List ℕ) → tokens3 profile s ≡ cutBytes openQasm s
   unfolding tokens3 openQasm

@@ -81,7 +81,7 @@ fn print_records(list: &[u32], n: u64) -> bool {
 }
 
 fn list_tokens(text: &[u8], list: &mut [u32]) -> bool {
-    let given = lexer::list::tokenize(text, text::default_profile(), list);
+    let given = listing::tokenize(text, text::default_profile(), list);
     if given.number != text::DONE {
         return print_refusal(given);
     }

@@ -20,9 +20,10 @@ use Rattle.cutters.specs.Records.{Token, total, recordWords, flatFrom}
 use Rattle.cutters.proofs.Records.{length-flat}
 use Rattle.lexer.specs.Cut.{Letters, Piece, advance, nextToken, tokens}
 use Rattle.lexer.specs.Unicode.{unicode}
-use Rattle.lexer.specs.Promises.{tokens3, tokensOf, run, CutRun, tokensBy}
+use Rattle.lexer.specs.Promises.{tokens3, tokensOf, tokensBy}
+use Rattle.listing.specs.Promises.{run, CutRun}
 use Rattle.lexer.proofs.Shapes.{Shape, plain, literal, advance-shape, tokens-nil}
-use Rattle.tokens.proofs.First.{tokens-first, first-some}
+use Rattle.lexer.proofs.Places.{tokens-first, next-some}
 use Rattle.tokens.proofs.Tiling.{formed-of}
 use Rattle.tokens.specs.Members.{isCounted, memberOf}
 use Rattle.renewal.specs.Key.{noBody, bodyLength}
@@ -92,7 +93,7 @@ module _ (u : Letters) (profile : ℕ) where
     cut-first =
         record {
           token = front;
-          some = first-some u profile c t;
+          some = next-some u profile c t;
           within = front-within;
           view = tokens-first u profile c t s v;
           known = token-known c t;

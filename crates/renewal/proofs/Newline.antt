@@ -15,7 +15,7 @@ use Rattle.text.proofs.Checks.{cut-accepted, cut-passes}
 use Rattle.locality.specs.Newline.{Run, withNewline}
 use Rattle.locality.proofs.Clause.{newline-shorter, newline-clause}
 use Rattle.lexer.specs.Promises.{tokens3, tokensOf}
-use Rattle.lexer.proofs.Whole.{known3}
+use Rattle.lexer.proofs.Places.{known3}
 use Rattle.tokens.specs.Members.{counted, membersBy, members3, membersOf}
 use Rattle.renewal.specs.Key.{keyOf, keyOfText}
 use Rattle.renewal.specs.Promises.{answerOf, Keyed}

@@ -11,7 +11,7 @@ ghost use Rattle.renewal.specs.Steps.{bodies, Walked, StoredKey};
 use crate::records::put_members;
 use crate::table;
 use cutters::RECORD;
-use lexer::list::cut_run;
+use listing::cut_run;
 use text::Answer;
 use ucd::tables;
 

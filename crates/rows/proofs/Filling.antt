@@ -17,7 +17,7 @@ use Rattle.cutters.specs.Records as definitions
 use Rattle.cutters.specs.Records.{total}
 use Rattle.lexer.specs.Cut.{Letters, nextToken, tokens}
 use Rattle.lexer.proofs.Shapes.{tokens-nil}
-use Rattle.tokens.proofs.First.{tokens-first}
+use Rattle.lexer.proofs.Places.{tokens-first}
 use Rattle.tokens.proofs.Tiling.{tiles-chars}
 use Rattle.rows.specs.Rows.{records}
 use Rattle.lexer.specs.Promises.{front, tokensBy}

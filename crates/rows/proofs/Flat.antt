@@ -11,7 +11,8 @@ use Rattle.lists.proofs.Bools.{by-test}
 use Rattle.text.specs.Answer.{Answered, done}
 use Rattle.cutters.specs.Records as definitions
 use Rattle.cutters.specs.Records.{recordWords, wordsOf, flatFrom}
-use Rattle.lexer.specs.Promises.{tokensOf, answerOf, listed, Listed}
+use Rattle.lexer.specs.Promises.{tokensOf}
+use Rattle.listing.specs.Promises.{answerOf, listed, Listed}
 use Rattle.rows.specs.Rows.{records, words, rowed, Rowed}
 use Rattle.rows.specs.declared.Token.{Token}
 

@@ -20,7 +20,8 @@ use Rattle.cutters.specs.Records.{recordWords}
 use Rattle.lexer.specs.Kinds.{marks, markIn}
 use Rattle.lexer.specs.Cut.{isDigit, advance, nextToken, tokens}
 use Rattle.lexer.specs.Unicode.{unicode}
-use Rattle.lexer.specs.Promises.{tokens3, tokensOf, answerOf}
+use Rattle.lexer.specs.Promises.{tokens3, tokensOf}
+use Rattle.listing.specs.Promises.{answerOf}
 use Rattle.rows.specs.Rows.{records, rowed, Rowed, Bridged}
 use Rattle.rows.specs.declared.Token.{Token}
 

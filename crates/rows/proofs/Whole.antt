@@ -18,9 +18,10 @@ use Rattle.cutters.specs.Records as definitions
 use Rattle.cutters.specs.Records.{recordWords}
 use Rattle.lexer.specs.Cut.{Letters, tokens}
 use Rattle.lexer.specs.Unicode.{unicode, lent}
-use Rattle.lexer.specs.Promises.{tokens3, tokensOf, answerOf, Listed, run, front, TokenAt, tokensBy}
+use Rattle.lexer.specs.Promises.{tokens3, tokensOf, front, tokensBy}
+use Rattle.listing.specs.Promises.{answerOf, Listed, run, TokenAt}
 use Rattle.lexer.proofs.Unicode.{lent-is}
-use Rattle.lexer.proofs.Whole.{few-tokens}
+use Rattle.lexer.proofs.Places.{few-tokens}
 use Rattle.rows.specs.Rows.{recordOf, records, rowed, Rowed}
 use Rattle.rows.specs.Steps.{recordAt, Judged, Filled}
 use Rattle.rows.specs.declared.Token.{Token}

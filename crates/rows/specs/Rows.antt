@@ -10,7 +10,8 @@ use Rattle.lists.specs.Over.{over}
 use Rattle.text.specs.Answer.{Answered, done}
 use Rattle.cutters.specs.Records as definitions
 use Rattle.cutters.specs.Records.{recordWords}
-use Rattle.lexer.specs.Promises.{tokensOf, answerOf}
+use Rattle.lexer.specs.Promises.{tokensOf}
+use Rattle.listing.specs.Promises.{answerOf}
 use Rattle.rows.specs.declared.Token.{Token}
 
 -- the record of a token: its kind, its length in bytes, its suffix start

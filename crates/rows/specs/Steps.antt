@@ -7,7 +7,8 @@ use lib.ListN.{length, drop, set}
 use Rattle.text.specs.Answer.{done}
 use Rattle.cutters.specs.Records.{recordWords}
 use Rattle.lexer.specs.Cut.{Letters}
-use Rattle.lexer.specs.Promises.{answerOf, tokensBy, front}
+use Rattle.lexer.specs.Promises.{tokensBy, front}
+use Rattle.listing.specs.Promises.{answerOf}
 use Rattle.rows.specs.Rows.{recordOf, records}
 use Rattle.rows.specs.declared.Token.{Token}
 

@@ -12,8 +12,9 @@ use Rattle.text.specs.Answer.{longest}
 use Rattle.lexer.specs.Kinds.{eof}
 use Rattle.cutters.specs.Records.{Token}
 use Rattle.lexer.specs.Cut.{Letters}
-use Rattle.lexer.specs.Promises.{run, front, TokenAt, tokensBy}
-use Rattle.lexer.proofs.Whole.{one-start, one-end}
+use Rattle.lexer.specs.Promises.{front, tokensBy}
+use Rattle.listing.specs.Promises.{run, TokenAt}
+use Rattle.listing.proofs.Whole.{one-start, one-end}
 use Rattle.tokens.specs.Members.{isCounted, memberOf, counted, membersBy}
 use Rattle.renewal.specs.Rules.{First, Keyable}
 use Rattle.renewal.proofs.Keyable.{keyable}

@@ -12,7 +12,7 @@ use crate::Comparison;
 use crate::DIFFERENT;
 use crate::SAME;
 use crate::Sight;
-use lexer::list::token_at;
+use listing::token_at;
 use text::Answer;
 use ucd::tables;
 

@@ -19,7 +19,8 @@ use Rattle.cutters.specs.Records.{flatFrom}
 use Rattle.lexer.specs.Kinds.{marks, markIn}
 use Rattle.lexer.specs.Cut.{notLf, isDigit, isHexDigit, block, slash, digits, exponent, exponentOf, point, fraction, based, number, isUnit, quoted, withoutLf, twice, quoteKind, agree, identifier, numberSuffix, advance, nextToken, tokens}
 use Rattle.lexer.specs.Unicode.{unicode}
-use Rattle.lexer.specs.Promises.{tokens3, tokensOf, answerOf, listed, Listed}
+use Rattle.lexer.specs.Promises.{tokens3, tokensOf}
+use Rattle.listing.specs.Promises.{answerOf, listed, Listed}
 
 -- ---- texts: a semicolon, a comma, two semicolons, 1.e5; a NUL in a line comment, a block comment and a quoted text
 abbrev semicolon : List ℕ

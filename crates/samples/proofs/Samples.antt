@@ -14,7 +14,8 @@ use Rattle.letters.specs.Chars.{whitespace}
 use Rattle.cutters.specs.Records.{flatFrom}
 use Rattle.lexer.specs.Kinds.{marks, markIn}
 use Rattle.lexer.specs.Unicode.{unicode}
-use Rattle.lexer.specs.Promises.{tokens3, tokensOf, answerOf, listed}
+use Rattle.lexer.specs.Promises.{tokens3, tokensOf}
+use Rattle.listing.specs.Promises.{answerOf, listed}
 use Rattle.modes.specs.Modes.{isSingle, isRaw, charactersShouldBeAscii}
 use Rattle.unescape.specs.Escapes.{toDigit, hexDigit, hexEscape, firstDigit, moreDigits, codePoint, closing, braced, unicodeEscape, simple, escape, asciiCheck}
 use Rattle.unescape.specs.Bodies.{alone, oneChar, charOrByte, items, itemsOf, flat as flatItems}

@@ -3,7 +3,7 @@
 use Prim.Native.Nat.{ℕ}
 use mathlib.Core.List.{List, [], _∷_}
 use lib.ListN.{length}
-use Rattle.lexer.specs.Promises.{answerOf, listed}
+use Rattle.listing.specs.Promises.{answerOf, listed}
 use Rattle.unescape.specs.Promises as bodies
 use Rattle.renewal.specs.Promises as keys
 

@@ -1,4 +1,3 @@
 pub mod Tiling
-pub mod First
 pub mod Agree
 pub mod Profiles

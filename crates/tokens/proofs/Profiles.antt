@@ -25,7 +25,7 @@ use Rattle.lexer.specs.Unicode.{unicode}
 use Rattle.lexer.specs.Promises.{tokens3}
 use Rattle.lexer.proofs.Shapes.{name-part, tokens-nil}
 use Rattle.tokens.specs.Profiles.{bare, bareIn, pragmaLine, Parting}
-use Rattle.tokens.proofs.First.{tokens-first, first-some}
+use Rattle.lexer.proofs.Places.{tokens-first, next-some}
 use Rattle.tokens.proofs.Agree.{agree-most, agree-all, agree-take, agree-chars}
 
 pragma-agrees : (s : List ℕ) → agree pragmaWord (chars s) ≡ agree pragmaWord s
@@ -164,7 +164,7 @@ step a s ih =
     let one : tokens3 1 (a ∷ s) ≡ k ∷ tokens3 1 (drop (k .len) (a ∷ s)) =
     tokens-first unicode 1 c t (a ∷ s) v ∙ ap (λ (x : Token). x ∷ tokens3 1 (drop (x .len) (a ∷ s))) same in
     later (a ∷ s) k (not-bare (a ∷ s) k (ap (λ (l : List ℕ). eqb (agree pragmaWord l) (length pragmaWord)) v ∙ n)) (tokens-first unicode 0 c t (a ∷ s) v) one
-    (ih (drop (k .len) (a ∷ s)) (omega (arith, length-drop (k .len) (a ∷ s), first-some unicode 0 c t))))
+    (ih (drop (k .len) (a ∷ s)) (omega (arith, length-drop (k .len) (a ∷ s), next-some unicode 0 c t))))
 
 no-tokens : (profile : ℕ) → tokens3 profile [] ≡ []
 unfolding tokens3

@@ -1,6 +1,6 @@
 use borrow.Author.Needs.{needs}
 use native.Mathlib.Omega.{arith}
-use Rattle.lexer.proofs.Whole.{one-end, one-start}
+use Rattle.listing.proofs.Whole.{one-end, one-start}
 use Rattle.rows.proofs.Whole.{token-at}
 use Rattle.rows.proofs.token_from.Statement.{statement}
 use Rattle.rows.proofs.token_from.Tie as tie

@@ -1,0 +1,230 @@
+-- The tokens of a text: runs of them, how many there are, and the answer.
+-- Assumes nothing.
+use Prim.Native.Nat.{ℕ, suc, _+_, _-_, _*_, _/_, _≤_, _<_, max}
+use native.Mathlib.Decide.{decLt}
+use native.Mathlib.Omega.{arith}
+use mathlib.Core.Path.{_≡_, refl, ap, sym, _∙_, subst}
+use mathlib.Core.List.{List, [], _∷_, _++_}
+use lib.ListN.{length, drop, getD, length-take, length-drop, drop-of-length-le}
+use lib.Seq.{sets, length-sets, take-all, take-nil}
+use lib.Dec.{ltb}
+use borrow.Author.Tests.{lt-ltb, le-ltb}
+use Rattle.lists.proofs.Bools.{by-test}
+use Rattle.lists.proofs.Put.{sets-append}
+use Rattle.lists.proofs.Store.{stored-front}
+use Rattle.unicode.proofs.Text.{point-at, left-end}
+use Rattle.text.specs.Answer.{Answered, done, longest, checkCut}
+use Rattle.text.specs.Steps.{Entered}
+use Rattle.text.proofs.Room as room
+use Rattle.text.proofs.Checks.{cut-accepted}
+use Rattle.cutters.specs.Records.{Token, total, recordWords, wordsOf, flatFrom}
+use Rattle.cutters.proofs.Records.{length-words, length-flat}
+use Rattle.lexer.specs.Cut.{Letters, tokens}
+use Rattle.lexer.specs.Unicode.{unicode, lent}
+use Rattle.listing.specs.Steps.{Filled, StoredTokens, runFrom}
+use Rattle.lexer.specs.Promises.{tokens3, tokensOf, front, tokensBy, Advanced}
+use Rattle.listing.specs.Promises.{answerOf, listed, Listed, run, CutRun, TokenAt}
+use Rattle.lexer.proofs.Shapes.{tokens-nil}
+use Rattle.lexer.proofs.Places.{few-tokens, tokens-some, tokens-first, next-within, advanced-view, end-some}
+use Rattle.lexer.proofs.Unicode.{lent-is}
+use Rattle.unicode.specs.Ranges.{flat}
+use Rattle.ucd.specs.Ucd.{xidStart, xidContinue, emoji}
+
+-- ---- a run of tokens: to go on from here comes to the same
+pub record Filling (u : Letters) (profile : ℕ) (s : List ℕ) (from : ℕ) (list₀ : List ℕ) (room at n : ℕ) (list : List ℕ) : Type 0 where
+  pub full : room ≡ length list₀ / recordWords
+  pub low : n ≤ room
+  pub long : length list ≡ length list₀
+  pub count : n + length (runFrom u profile s at (room - n)) ≡ length (runFrom u profile s from room)
+  pub place : at + total (runFrom u profile s at (room - n)) ≡ from + total (runFrom u profile s from room)
+  pub rest : drop (room - n) (tokensBy u profile (drop at s)) ≡ drop room (tokensBy u profile (drop from s))
+  pub same : sets list (recordWords * n) (flatFrom s at (runFrom u profile s at (room - n))) ≡ sets list₀ 0 (flatFrom s from (runFrom u profile s from room))
+
+pub filling-none : (u : Letters) (profile : ℕ) (s : List ℕ) (from : ℕ) (list : List ℕ) {room : ℕ} → room ≡ length list / recordWords → Filling u profile s from list room from 0 list
+filling-none u profile s from list {room} r =
+    let z : room - 0 ≡ room = omega arith in
+    record { full = r; low = omega arith; long = refl; count = rw z (omega arith); place = rw z; rest = rw z; same = rw z }
+
+module _ {u : Letters} {profile : ℕ} {s list₀ list : List ℕ} {from room at n : ℕ} (w : Filling u profile s from list₀ room at n list) where
+  pub fill-room : {k : ℕ} → n < room → k ≡ recordWords * n → k + recordWords ≤ length list
+  fill-room h e = omega (arith, w .full, w .long)
+
+  module _ {kind suffixAt end n′ k : ℕ} {list′ : List ℕ} (l : n < room) (h : at < length s) (a : Advanced u profile s at kind suffixAt end) where
+    pub fill-on : k ≡ recordWords * n → list′ ≡ sets list k (wordsOf s at (record { kind = kind; len = end - at; suffix = suffixAt - at })) → n′ ≡ n + 1 → Filling u profile s from list₀ room end n′ list′
+    unfolding flatFrom
+    fill-on v e f =
+        let ts = tokensBy u profile (drop end s) in
+        let t : Token = record { kind = kind; len = end - at; suffix = suffixAt - at } in
+        let view : tokensBy u profile (drop at s) ≡ t ∷ ts = advanced-view u profile s at kind suffixAt end a h in
+        let some : at < end = omega (arith, end-some u profile s at kind suffixAt end a) in
+        let less : room - n ≡ suc (room - n′) = omega arith in
+        let front : runFrom u profile s at (room - n) ≡ t ∷ runFrom u profile s end (room - n′) = rw (less, view) in
+        let W = wordsOf s at t in
+        let m : recordWords * n′ ≡ k + length W = omega (arith, length-words s at t) in
+        let there : at + t .len ≡ end = omega (arith, some) in
+        let rest = runFrom u profile s end (room - n′) in
+        let far : drop (room - n) (tokensBy u profile (drop at s)) ≡ drop (room - n′) ts = rw (less, view) in
+        let g : sets list k (flatFrom s at (runFrom u profile s at (room - n))) ≡ sets list₀ 0 (flatFrom s from (runFrom u profile s from room)) = rw v (w .same) in
+        let l : length list′ ≡ length list = ap length e ∙ length-sets list k W in
+        let f : flatFrom s at (runFrom u profile s at (room - n)) ≡ W ++ flatFrom s end rest = ap (flatFrom s at) front ∙ ap (λ (i : ℕ). W ++ flatFrom s i rest) there in
+        record {
+          full = w .full;
+          low = omega arith;
+          long = l ∙ w .long;
+          count = omega (arith, w .count, ap length front);
+          place = omega (arith, w .place, ap total front, some);
+          rest = sym far ∙ w .rest;
+          same = rw (m, e) (sets-append W (flatFrom s end rest) list k ∙ ap (sets list k) (sym f) ∙ g);
+        }
+
+  -- where nothing is left to cut, all is done
+  fill-done : {count : ℕ} → runFrom u profile s at (room - n) ≡ [] → drop (room - n) (tokensBy u profile (drop at s)) ≡ tokensBy u profile (drop at s) → count ≡ n → Filled u profile s from list₀ at count list
+  unfolding flatFrom
+  fill-done {count} z k e =
+      let r = w .full in
+      record {
+        many = rw (← r) (omega (arith, w .count, ap length z));
+        reached = rw (← r) (omega (arith, w .place, ap total z));
+        rest = rw (← r) (sym k ∙ w .rest);
+        words = rw (← r) (ap (λ (l : List Token). sets list (recordWords * n) (flatFrom s at l)) (sym z) ∙ w .same);
+      }
+
+  pub fill-full : {count : ℕ} → room ≤ n → count ≡ n → Filled u profile s from list₀ at count list
+  fill-full h e = let z : room - n ≡ 0 = omega arith in fill-done (rw z) (rw z) e
+
+  pub fill-end : {count : ℕ} → length s ≤ at → count ≡ n → Filled u profile s from list₀ at count list
+  fill-end h e =
+      let z : tokensBy u profile (drop at s) ≡ [] = ap (tokens u profile) (left-end s at h) ∙ tokens-nil u profile in
+      fill-done (rw z (take-nil (room - n))) (rw z (drop-of-length-le [] {i = room - n} (omega arith))) e
+
+-- ---- the same for every length of text
+module _ {u : Letters} {profile : ℕ} {s list list′ : List ℕ} {from at count : ℕ} where
+  pub run-none : longest < length s → at ≡ from → count ≡ 0 → list′ ≡ list → CutRun u profile s from list at count list′
+  unfolding run flatFrom
+  run-none h a c e =
+      let t = lt-ltb longest (length s) h in
+      record { reached = rw t (omega arith); many = rw t c; words = rw t e }
+
+  pub run-some : {at₀ count₀ : ℕ} → length s ≤ longest → Filled u profile s from list at₀ count₀ list′ → at ≡ at₀ → count ≡ count₀ → CutRun u profile s from list at count list′
+  unfolding run
+  run-some h f a c =
+      let t = le-ltb longest (length s) h in
+      let room = length list / recordWords in
+      let n = length-flat s from (runFrom u profile s from room) in
+      let few = length-take room (tokensBy u profile (drop from s)) in
+      record {
+        reached = rw t (a ∙ f .reached);
+        many = rw t (c ∙ f .many);
+        words = rw t (stored-front (flatFrom s from (runFrom u profile s from room)) list (f .words) (omega (arith, n, few)));
+      }
+
+-- ---- the count, by runs
+pub record Counting (u : Letters) (profile : ℕ) (s : List ℕ) (at n : ℕ) : Type 0 where
+  pub sum : n + length (tokensBy u profile (drop at s)) ≡ length (tokensBy u profile s)
+
+pub counting-none : (u : Letters) (profile : ℕ) (s : List ℕ) → Counting u profile s 0 0
+counting-none u profile s = record { sum = omega arith }
+
+module _ {u : Letters} {profile : ℕ} {s : List ℕ} {at n : ℕ} (w : Counting u profile s at n) where
+  pub count-end : length s ≤ at → n ≡ length (tokensBy u profile s)
+  count-end h =
+      let z : tokensBy u profile (drop at s) ≡ [] = ap (tokens u profile) (left-end s at h) ∙ tokens-nil u profile in
+      omega (arith, w .sum, ap length z)
+
+  module _ {list list′ : List ℕ} {at′ k : ℕ} (f : Filled u profile s at list at′ k list′) where
+    pub count-add : n + k ≤ length s
+    count-add = omega (arith, w .sum, f .many, length-take (length list / recordWords) (tokensBy u profile (drop at s)), few-tokens u profile s)
+
+    pub count-on : {n′ : ℕ} → n′ ≡ n + k → Counting u profile s at′ n′
+    count-on e =
+        let T = tokensBy u profile (drop at s) in
+        record { sum = omega (arith, w .sum, f .many, ap length (f .rest), length-take (length list / recordWords) T, length-drop (length list / recordWords) T) }
+
+    pub count-less : length list ≡ 64 * recordWords → at < length s → length (tokensBy u profile (drop at′ s)) < length (tokensBy u profile (drop at s))
+    count-less r h =
+        let T = tokensBy u profile (drop at s) in
+        omega (arith, ap length (f .rest), length-drop (length list / recordWords) T, tokens-some u profile s at h)
+
+-- ---- the answer of a text that passed the checks
+module _ {u : Letters} {profile : ℕ} {s list list′ : List ℕ} {number also : ℕ} where
+  stored : {at n : ℕ} → Filled u profile s 0 list at n list′ → length (tokensBy u profile s) ≤ length list / recordWords → number ≡ done → also ≡ n → StoredTokens u profile s list number also list′
+  stored w l k a =
+      let T = tokensBy u profile s in
+      let e : runFrom u profile s 0 (length list / recordWords) ≡ T = take-all (length list / recordWords) T l in
+      room.stored-all (w .many ∙ ap length e) (omega (arith, w .many, ap length e)) (omega (arith, length-flat s 0 T)) (w .words ∙ ap (λ (l : List Token). sets list 0 (flatFrom s 0 l)) e) k a
+
+  pub stored-all : {at n : ℕ} → Filled u profile s 0 list at n list′ → length s ≤ length list / recordWords → number ≡ done → also ≡ n → StoredTokens u profile s list number also list′
+  stored-all w l = stored w (omega (arith, few-tokens u profile s))
+
+  pub stored-counted : {at n m : ℕ} → Filled u profile s 0 list at n list′ → m ≡ length (tokensBy u profile s) → m ≤ length list / recordWords → number ≡ done → also ≡ n → StoredTokens u profile s list number also list′
+  stored-counted w c l = stored w (omega arith)
+
+-- so what is stored over the constants is what is stored over Unicode's letters
+pub lent-stored : (profile : ℕ) (s : List ℕ) {number also : ℕ} {list list′ : List ℕ} → StoredTokens (lent (flat xidStart) (flat xidContinue) (flat emoji)) profile s list number also list′ → StoredTokens unicode profile s list number also list′
+lent-stored profile s {number} {also} {list} {list′} r = subst (λ (u : Letters). StoredTokens u profile s list number also list′) lent-is r
+
+-- ---- the whole
+listed-by : {s list list′ : List ℕ} {profile number also : ℕ} → Entered (checkCut s profile) (length list / recordWords) (length (tokensOf profile s)) (flatFrom s 0 (tokensOf profile s)) list number also list′ → Listed s profile list number also list′
+unfolding answerOf listed
+listed-by e = record { answer = e .answer; words = e .memory }
+
+pub listed-refused : {s list list′ : List ℕ} {profile number also : ℕ} → Answered (checkCut s profile) number also → (number ≡ done → ⊥) → list′ ≡ list → Listed s profile list number also list′
+listed-refused a n e = listed-by (room.refused a n e)
+
+pub listed-done : {s list list′ : List ℕ} {profile n₀ a₀ number also : ℕ} → Answered (checkCut s profile) n₀ a₀ → n₀ ≡ done → StoredTokens unicode profile s list number also list′ → Listed s profile list number also list′
+unfolding tokensOf tokens3
+listed-done c z r = listed-by (room.passed c z r)
+
+pub cut-short : (s : List ℕ) (profile : ℕ) {n a : ℕ} → Answered (checkCut s profile) n a → n ≡ done → length s ≤ longest
+cut-short s profile c z = cut-accepted s profile (sym (c .number-is) ∙ z) .text .short
+
+-- ---- a run of one token
+-- a record of noughts, and the words of at most one token before it
+abbrev none : List ℕ
+none = 0 ∷ 0 ∷ 0 ∷ []
+
+one-words : (s : List ℕ) (at : ℕ) (l : List Token) → length l ≤ 1 → {list : List ℕ} → list ≡ flatFrom s at l ++ drop (length (flatFrom s at l)) none → (getD list 0 0 ≡ front l .kind) × (getD list 2 0 ≡ front l .suffix) × (total l ≡ front l .len)
+unfolding flatFrom front
+one-words s at [] h e = (ap (λ (l : List ℕ). getD l 0 0) e, ap (λ (l : List ℕ). getD l 2 0) e, refl)
+one-words s at (t ∷ []) h e = (ap (λ (l : List ℕ). getD l 0 0) e, ap (λ (l : List ℕ). getD l 2 0) e, omega arith)
+one-words s at (t ∷ t′ ∷ ts) h e = absurd (omega arith)
+
+module _ (u : Letters) (profile : ℕ) (s : List ℕ) (at : ℕ) where
+  abbrev one : List Token
+  one = run u profile s at 1
+
+  one-few : length one ≤ 1
+  unfolding run
+  one-few = by-test (ltb longest (length s)) (λ t. rw t (omega arith)) (λ t. rw t (omega (arith, length-take 1 (tokensBy u profile (drop at s)))))
+
+  -- a token stands within its text
+  pub one-within : (at + front one .suffix ≤ max at (length s)) × (at + front one .len ≤ max at (length s))
+  unfolding run front
+  one-within =
+      by-test (ltb longest (length s))
+      (λ t. rw t (omega arith, omega arith))
+      (λ t.
+      elim (decLt at (length s)) [
+        | yes h ↦
+            let e = point-at s at h .view in
+            let b = next-within u profile _ _ (drop at s) e in
+            rw (t, tokens-first u profile _ _ (drop at s) e) (omega (arith, b .1, length-drop at s), omega (arith, b .0, length-drop at s))
+        | no n ↦ rw (t, left-end s at (omega arith), tokens-nil u profile) (omega arith, omega arith)
+      ])
+
+module _ {u : Letters} {profile : ℕ} {s list′ : List ℕ} {at end count : ℕ} (r : CutRun u profile s at none end count list′) where
+  pub one-suffix : at + getD list′ 2 0 ≤ max at (length s)
+  one-suffix = omega (arith, one-within u profile s at .0, one-words s at (one u profile s at) (one-few u profile s at) (r .words) .1)
+
+  pub one-token : {kind suffixAt end′ : ℕ} → kind ≡ getD list′ 0 0 → suffixAt ≡ at + getD list′ 2 0 → end′ ≡ end → TokenAt u profile s at kind suffixAt end′
+  one-token k m e =
+      let w = one-words s at (one u profile s at) (one-few u profile s at) (r .words) in
+      record { kind-is = k ∙ w .0; suffix-is = m ∙ ap (λ (n : ℕ). at + n) (w .1); end-is = e ∙ r .reached ∙ ap (λ (n : ℕ). at + n) (w .2) }
+
+-- a place of the token is at or behind its start, and within the text
+module _ {u : Letters} {profile : ℕ} {s : List ℕ} {at kind suffixAt end : ℕ} (a : TokenAt u profile s at kind suffixAt end) where
+  pub one-start : (at ≤ suffixAt) × (suffixAt ≤ max at (length s))
+  one-start = (omega (arith, a .suffix-is), omega (arith, a .suffix-is, one-within u profile s at .0))
+
+  pub one-end : (at ≤ end) × (end ≤ max at (length s))
+  one-end = (omega (arith, a .end-is), omega (arith, a .end-is, one-within u profile s at .1))
