@@ -21,7 +21,7 @@ use Rattle.renewal.specs.Key.{keyOf, keyOfText}
 use Rattle.renewal.specs.Promises.{answerOf, Keyed}
 use Rattle.renewal.proofs.Whole.{done-accepted, done-written}
 
--- where the counted tokens are the same, the keys are: each corollary of `locality` on what may change speaks of the key
+-- where the counted tokens are the same, the keys are: with `members-known` each corollary of `locality` on what may change speaks of the key
 pub same-key : (profile : ℕ) (s s′ : List ℕ) → membersOf profile s ≡ membersOf profile s′ → keyOfText profile s ≡ keyOfText profile s′
 unfolding keyOfText
 same-key profile s s′ e = ap keyOf e
@@ -46,7 +46,7 @@ run-known profile {s} k r =
       ends = r .ends;
     }
 
-members-known : (profile : ℕ) (s : List ℕ) → knownProfile profile ≡ true → membersOf profile s ≡ members3 profile s
+pub members-known : (profile : ℕ) (s : List ℕ) → knownProfile profile ≡ true → membersOf profile s ≡ members3 profile s
 unfolding membersOf members3 membersBy
 members-known profile s k = ap (counted s) (known3 profile s k)
 
