@@ -1,4 +1,5 @@
 // What is printed. A write that fails goes unsaid: a program has no exit status.
+ghost use Prim.Native.Nat.{_≤_};
 use libc::STDOUT_FILENO;
 use text::Answer;
 
@@ -48,19 +49,16 @@ pub fn print_word(word: u32, joined: bool) {
     print_number(word as u64);
 }
 
-// How many words, or whole records, stand before a word.
-fn before(i: usize, records: bool) -> usize {
-    if records { i / 3 } else { i }
-}
-
-// The first n words of a list, or its first n `records`.
-pub fn print_words(list: &[u32], n: usize, records: bool) {
+// The first n records of a list, each of so many words; for a width of 1, its first n words.
+pub fn print_words(list: &[u32], n: usize, width: usize)
+    requires { ⌜ 1 ≤ width ⌝ }
+{
     let mut i = 0;
     while i < list.len() {
-        if n <= before(i, records) {
+        if n <= i / width {
             return;
         }
-        print_word(list[i], records & (i % 3 != 0));
+        print_word(list[i], i % width != 0);
         i += 1;
     }
 }

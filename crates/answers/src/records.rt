@@ -1,4 +1,4 @@
-// The tasks on tokens and items: lists of words, three for each, and rows of records.
+// The tasks on tokens and items: lists of words, so many for each, and rows of records.
 ghost use Prim.Native.Nat.{_≤_, _*_, _+_};
 ghost use lib.ListN.{length};
 ghost use Rattle.cutters.specs.Records.{recordWords};
@@ -11,6 +11,7 @@ use crate::tasks;
 use crate::tasks::has_room;
 use crate::tasks::lent;
 use crate::tasks::shown;
+use crate::words;
 use crate::words::Asked;
 use cutters::RECORD;
 use rows::Row;
@@ -18,8 +19,11 @@ use rows::Token;
 use rows::rows_of;
 use text::Answer;
 
-// The most words of a list, three for each byte of the longest text.
-const LIST: usize = 98304;
+// How many words an item has.
+const ITEM: usize = 3;
+
+// The most words of a list: a record for each byte of the longest text. An item has no more words than that.
+const LIST: usize = RECORD * words::TEXT;
 
 type List = [u32; LIST];
 
@@ -144,10 +148,23 @@ fn call_in(task: usize, text: &[u8], asked: Asked, list: &mut [u32]) -> Answer {
     call(task, text, asked, &mut list[0..k])
 }
 
+// How many words are shown as one: those of a record, or, where all of the memory is shown, each by itself.
+fn width_of(task: usize) -> usize
+    ensures { λ r. ⌜ 1 ≤ r ⌝ }
+{
+    if has_room(task) {
+        return 1;
+    }
+    if task == tasks::TOK {
+        return RECORD;
+    }
+    ITEM
+}
+
 fn answer_in(task: usize, text: &[u8], asked: Asked, list: &mut List) {
     let given = call_in(task, text, asked, list);
     print_answer(given);
-    print_words(list, shown(task, asked, given), !has_room(task));
+    print_words(list, shown(task, asked, given), width_of(task));
 }
 
 pub fn answer(task: usize, text: &[u8], asked: Asked) {

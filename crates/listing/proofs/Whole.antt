@@ -16,7 +16,7 @@ use Rattle.unicode.proofs.Text.{point-at, left-end}
 use Rattle.text.specs.Answer.{Answered, done, longest, checkCut}
 use Rattle.text.specs.Steps.{Entered}
 use Rattle.text.proofs.Room as room
-use Rattle.text.proofs.Checks.{cut-accepted}
+use Rattle.text.proofs.Checks.{cut-passed}
 use Rattle.cutters.specs.Records.{Token, total, recordWords, wordsOf, flatFrom}
 use Rattle.cutters.proofs.Records.{length-words, length-flat}
 use Rattle.lexer.specs.Cut.{Letters, tokens}
@@ -25,7 +25,7 @@ use Rattle.listing.specs.Steps.{Filled, StoredTokens, runFrom}
 use Rattle.lexer.specs.Promises.{tokens3, tokensOf, front, tokensBy, Advanced}
 use Rattle.listing.specs.Promises.{answerOf, listed, Listed, run, CutRun, TokenAt}
 use Rattle.lexer.proofs.Shapes.{tokens-nil}
-use Rattle.lexer.proofs.Places.{few-tokens, tokens-some, tokens-first, next-within, advanced-view, end-some}
+use Rattle.lexer.proofs.Places.{few-tokens, tokens-some, tokens-first, next-within, advanced-view, end-some, known3}
 use Rattle.lexer.proofs.Unicode.{lent-is}
 use Rattle.unicode.specs.Ranges.{flat}
 use Rattle.ucd.specs.Ucd.{xidStart, xidContinue, emoji}
@@ -172,11 +172,8 @@ pub listed-refused : {s list list′ : List ℕ} {profile number also : ℕ} →
 listed-refused a n e = listed-by (room.refused a n e)
 
 pub listed-done : {s list list′ : List ℕ} {profile n₀ a₀ number also : ℕ} → Answered (checkCut s profile) n₀ a₀ → n₀ ≡ done → StoredTokens unicode profile s list number also list′ → Listed s profile list number also list′
-unfolding tokensOf tokens3
-listed-done c z r = listed-by (room.passed c z r)
-
-pub cut-short : (s : List ℕ) (profile : ℕ) {n a : ℕ} → Answered (checkCut s profile) n a → n ≡ done → length s ≤ longest
-cut-short s profile c z = cut-accepted s profile (sym (c .number-is) ∙ z) .text .short
+unfolding tokens3
+listed-done {s} {profile = profile} c z r = listed-by (room.passed c z (rw (known3 profile s (cut-passed s profile c z .known)) r))
 
 -- ---- a run of one token
 -- a record of noughts, and the words of at most one token before it

@@ -8,7 +8,6 @@ pub mod White
 pub mod Between
 pub mod Written
 pub mod Clause
-pub mod Cutter
 pub mod Ahead
 pub mod Insert
 pub mod Corollaries

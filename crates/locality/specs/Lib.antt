@@ -2,5 +2,4 @@ pub mod Machine
 pub mod Phases
 pub mod Newline
 pub mod Changes
-pub mod First
 pub mod Feed

@@ -8,14 +8,14 @@ use mathlib.Core.List.{List, _∷_}
 use lib.ListN.{length, drop, length-drop}
 use Rattle.lists.specs.All.{Each}
 use Rattle.lists.proofs.Cut.{by-length}
-use Rattle.text.specs.Answer.{done, longest, checkCut}
+use Rattle.text.specs.Answer.{done, longest, knownProfile, checkCut}
 use Rattle.text.proofs.Checks.{cut-accepted}
 use Rattle.cutters.specs.Records.{Token}
 use Rattle.tokens.specs.Members.{isCounted, memberOf, counted, membersBy, membersOf}
 use Rattle.renewal.specs.Key.{keyOf, keyBy, keyOfText}
 use Rattle.renewal.specs.Rules.{Ruled, Keyable}
 use Rattle.renewal.proofs.Prefix.{keys-once, ruled-told}
-use Rattle.renewal.proofs.Runs.{key-few-by}
+use Rattle.renewal.proofs.Runs.{none-of, first-of, key-few-by}
 use Rattle.renewal.proofs.Keyable.{profile-keyable}
 
 module _ {cutter : List ℕ → List Token} (cuts : Keyable cutter) where
@@ -31,9 +31,9 @@ module _ {cutter : List ℕ → List Token} (cuts : Keyable cutter) where
   pub members-ruled : (s : List ℕ) → length s ≤ longest → Each Ruled (membersBy cutter s)
   unfolding membersBy counted
   members-ruled =
-      by-length (λ (s : List ℕ). length s ≤ longest → Each Ruled (membersBy cutter s)) (λ h. rw (cuts .none) tt)
+      by-length (λ (s : List ℕ). length s ≤ longest → Each Ruled (membersBy cutter s)) (λ h. rw (none-of cuts) tt)
       (λ a s ih h.
-      let f = cuts .first a s in
+      let f = first-of cuts a s in
       let l = length-drop (f .token .len) (a ∷ s) in
       rw (f .view) (ruled-cons (a ∷ s) (f .token) (cutter (drop (f .token .len) (a ∷ s))) (f .ruled h) (ih (drop (f .token .len) (a ∷ s)) (omega (arith, f .some)) (omega arith))))
 
@@ -50,8 +50,8 @@ pub exactly-when : (profile : ℕ) (s s′ : List ℕ) → checkCut s profile .0
     (keyOfText profile s ≡ keyOfText profile s′ → membersOf profile s ≡ membersOf profile s′) × (membersOf profile s ≡ membersOf profile s′ → keyOfText profile s ≡ keyOfText profile s′)
 unfolding keyOfText membersOf keyBy
 exactly-when profile s s′ h h′ =
-    exactly-when-by (profile-keyable profile) s s′ (cut-accepted s profile h .text .short) (cut-accepted s′ profile h′ .text .short)
+    exactly-when-by (profile-keyable profile (cut-accepted s profile h .known)) s s′ (cut-accepted s profile h .text .short) (cut-accepted s′ profile h′ .text .short)
 
-pub key-few : (profile : ℕ) (s : List ℕ) → length (keyOfText profile s) ≤ 11 * length s
+pub key-few : (profile : ℕ) (s : List ℕ) → knownProfile profile ≡ true → length (keyOfText profile s) ≤ 11 * length s
 unfolding keyOfText membersOf keyBy
-key-few profile s = key-few-by (profile-keyable profile) s
+key-few profile s h = key-few-by (profile-keyable profile h) s

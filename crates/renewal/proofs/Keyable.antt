@@ -15,24 +15,25 @@ use Rattle.unicode.specs.Utf8.{first, chars, width}
 use Rattle.unicode.specs.Text.{byteLength}
 use Rattle.unicode.proofs.Text.{chars-nil, chars-first, bytes-chars}
 use Rattle.unicode.proofs.Ascii.{chars-ascii, wide-code}
-use Rattle.text.specs.Answer.{longest}
+use Rattle.text.specs.Answer.{longest, knownProfile}
 use Rattle.cutters.specs.Records.{Token, total, recordWords, flatFrom}
 use Rattle.cutters.proofs.Records.{length-flat}
-use Rattle.lexer.specs.Cut.{Letters, Piece, advance, nextToken, tokens}
+use Rattle.lexer.specs.Cut.{Letters, Piece, advance, nextToken}
 use Rattle.lexer.specs.Unicode.{unicode}
 use Rattle.lexer.specs.Promises.{tokens3, tokensOf, tokensBy}
 use Rattle.listing.specs.Promises.{run, CutRun}
-use Rattle.lexer.proofs.Shapes.{Shape, plain, literal, advance-shape, tokens-nil}
-use Rattle.lexer.proofs.Places.{tokens-first, next-some}
+use Rattle.lexer.proofs.Shapes.{Shape, plain, literal, advance-shape}
+use Rattle.lexer.proofs.Places.{known3}
 use Rattle.tokens.proofs.Tiling.{formed-of}
+use Rattle.tokens.proofs.OpenQasm.{head, tail, chars-are, openQasm, tokens-cut}
 use Rattle.tokens.specs.Members.{isCounted, memberOf}
 use Rattle.renewal.specs.Key.{noBody, bodyLength}
-use Rattle.renewal.specs.Rules.{Ruled, mark, stored, First, Keyable, ownBytes}
+use Rattle.renewal.specs.Rules.{Ruled, mark, stored, Keyable, ownBytes}
 use Rattle.renewal.specs.Rules as rules
 use Rattle.renewal.specs.Steps.{bodies, toks, entries, RunReady, Walked}
 use Rattle.renewal.proofs.Bodies.{plain-known, literal-known, plain-body, literal-body, empty-mark}
 use Rattle.renewal.proofs.Marks.{advance-mark}
-use Rattle.renewal.proofs.Runs.{taken, taken-some}
+use Rattle.renewal.proofs.Runs.{none-of, taken, taken-some}
 use Rattle.renewal.proofs.Entering.{toks-of}
 use Rattle.renewal.proofs.Walking.{Walking, walk-ready, walk-on, walk-end}
 
@@ -88,32 +89,22 @@ module _ (u : Letters) (profile : ℕ) where
         let b = literal-body (front .kind) k in
         stored (λ z. omega arith) (rules.literal b (f .literal k .0) (f .literal k .1) (omega (arith, front-within)) front-bytes)
 
-    cut-first : First (tokensBy u profile) s
-    unfolding nextToken
-    cut-first =
-        record {
-          token = front;
-          some = next-some u profile c t;
-          within = front-within;
-          view = tokens-first u profile c t s v;
-          known = token-known c t;
-          ruled = front-ruled (advance-shape u profile c t);
-        }
-
-  cut-none : tokensBy u profile [] ≡ []
-  cut-none = ap (tokens u profile) chars-nil ∙ tokens-nil u profile
-
   pub keyable : Keyable (tokensBy u profile)
+  unfolding openQasm nextToken
   keyable =
       record {
-        none = cut-none;
-        first = λ a s. cut-first (first (a ∷ s) .0) (chars (drop (first (a ∷ s) .1) (a ∷ s))) (a ∷ s) (chars-first (a ∷ s) (omega arith));
+        cutter = openQasm u profile;
+        cuts = tokens-cut u profile;
+        known = λ a s. token-known (head a s) (tail a s);
+        ruled = λ a s. front-ruled (head a s) (tail a s) (a ∷ s) (chars-are a s) (advance-shape u profile (head a s) (tail a s));
       }
 
 -- that of the profiles
-pub profile-keyable : (profile : ℕ) → Keyable (tokensOf profile)
-unfolding tokensOf tokens3
-profile-keyable profile = keyable unicode profile
+pub profile-keyable : (profile : ℕ) → knownProfile profile ≡ true → Keyable (tokensOf profile)
+unfolding tokens3
+profile-keyable profile h =
+    let k = keyable unicode profile in
+    record { cutter = k .cutter; cuts = λ s. known3 profile s h ∙ k .cuts s; known = k .known; ruled = k .ruled }
 
 -- ---- what `cut_run` gives are the tokens at the front
 module _ {u : Letters} {profile : ℕ} {s list list′ : List ℕ} {at at′ count : ℕ} (l : length list ≡ 64 * recordWords) (short : length s ≤ longest) (r : CutRun u profile s at list at′ count list′) where
@@ -150,4 +141,4 @@ module _ {u : Letters} {profile : ℕ} {s list list′ : List ℕ} {at at′ cou
     run-on = walk-on list′ count w (taken (keyable u profile) 64 (drop at s)) tokens-are run-end
 
 pub run-done : (u : Letters) (profile : ℕ) {s key₀ key : List ℕ} {write : Bool} {at n : ℕ} → Walking (tokensBy u profile) s write key₀ at n key → length s ≤ at → Walked (tokensBy u profile) s write key₀ n key
-run-done u profile w h = walk-end (cut-none u profile) w h
+run-done u profile w h = walk-end (none-of (keyable u profile)) w h

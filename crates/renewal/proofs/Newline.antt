@@ -16,7 +16,8 @@ use Rattle.locality.specs.Newline.{Run, withNewline}
 use Rattle.locality.proofs.Clause.{newline-shorter, newline-clause}
 use Rattle.lexer.specs.Promises.{tokens3, tokensOf}
 use Rattle.lexer.proofs.Places.{known3}
-use Rattle.tokens.specs.Members.{counted, membersBy, members3, membersOf}
+use Rattle.tokens.specs.Members.{membersOf}
+use Rattle.tokens.proofs.OpenQasm.{members-known}
 use Rattle.renewal.specs.Key.{keyOf, keyOfText}
 use Rattle.renewal.specs.Promises.{answerOf, Keyed}
 use Rattle.renewal.proofs.Whole.{done-accepted, done-written}
@@ -32,7 +33,7 @@ pub same-accepted : (profile : ℕ) (s s′ : List ℕ) → checkCut s profile .
 same-accepted profile s s′ h f l e =
     (ap (λ (r : ℕ × ℕ). r .0) (cut-passes s′ profile (record { known = cut-accepted s profile h .known; text = record { short = l; good = f } })), same-key profile s′ s e)
 
--- ---- under the profiles of OpenQASM 3 a run, and the members, are its own
+-- ---- under the profiles of OpenQASM 3 a run is its own
 run-known : (profile : ℕ) {s : List ℕ} {from to : ℕ} → knownProfile profile ≡ true → Run (tokensOf profile) s from to → Run (tokens3 profile) s from to
 run-known profile {s} k r =
     record {
@@ -45,10 +46,6 @@ run-known profile {s} k r =
       starts = r .starts;
       ends = r .ends;
     }
-
-pub members-known : (profile : ℕ) (s : List ℕ) → knownProfile profile ≡ true → membersOf profile s ≡ members3 profile s
-unfolding membersOf members3 membersBy
-members-known profile s k = ap (counted s) (known3 profile s k)
 
 -- ---- THE NEWLINE CLAUSE: of a text that is accepted, with one newline in place of any unbroken run of one or more uncounted tokens, the new text
 -- is accepted too, and its key is the same

@@ -9,10 +9,12 @@ use lib.Dec.{eqb}
 use lib.ListN.{length, take, drop, length-append, length-drop}
 use lib.Seq.{length-take-le, drop-drop}
 use Rattle.lists.proofs.Cut.{by-length}
+use Rattle.text.specs.Answer.{longest}
 use Rattle.cutters.specs.Records.{Token, total}
+use Rattle.cutters.proofs.Cutter.{cut-none, cut-first}
 use Rattle.tokens.specs.Members.{isCounted, memberOf, counted, membersBy}
 use Rattle.renewal.specs.Key.{noBody, bodyLength, encode, keyOf, keyBy}
-use Rattle.renewal.specs.Rules.{First, Keyable}
+use Rattle.renewal.specs.Rules.{Ruled, Keyable}
 use Rattle.renewal.specs.Steps.{member, entry, entries}
 use Rattle.renewal.proofs.Writing.{entry-few}
 
@@ -36,7 +38,32 @@ pub record Taken (cutter : List ℕ → List Token) (s : List ℕ) (ts : List To
   pub view : keyBy cutter s ≡ entries s ts ++ keyBy cutter (drop (total ts) s)
   pub few : length (entries s ts) ≤ 11 * total ts
 
-module _ {cutter : List ℕ → List Token} (cuts : Keyable cutter) where
+-- ---- the first token of a text that is not empty, and the tokens of what is left
+pub record First (cutter : List ℕ → List Token) (s : List ℕ) : Type 0 where
+  pub token : Token
+  pub some : 1 ≤ token .len
+  pub within : token .len ≤ length s
+  pub view : cutter s ≡ token ∷ cutter (drop (token .len) s)
+  pub known : eqb (bodyLength (token .kind)) noBody ≡ not (isCounted (token .kind))
+  pub ruled : (length s ≤ longest → isCounted (token .kind) ≡ true → Ruled (memberOf s token))
+
+module _ {cutter : List ℕ → List Token} (k : Keyable cutter) where
+  pub none-of : cutter [] ≡ []
+  none-of = k .cuts [] ∙ cut-none (k .cutter)
+
+  pub first-of : (a : ℕ) (s : List ℕ) → First cutter (a ∷ s)
+  first-of a s =
+      let c = k .cutter in
+      let t = c .next a s in
+      record {
+        token = t;
+        some = c .some a s;
+        within = c .within a s;
+        view = k .cuts (a ∷ s) ∙ cut-first c a s ∙ ap (λ (l : List Token). t ∷ l) (sym (k .cuts (drop (t .len) (a ∷ s))));
+        known = k .known a s;
+        ruled = k .ruled a s;
+      }
+
   -- the first adds at most eleven bytes for each of its own
   module _ {s : List ℕ} (f : First cutter s) where
     abbrev t : Token
@@ -71,22 +98,22 @@ module _ {cutter : List ℕ → List Token} (cuts : Keyable cutter) where
 
   pub taken : (m : ℕ) (s : List ℕ) → Taken cutter s (take m (cutter s))
   taken zero s = taken-none s
-  taken (suc m) [] = rw (cuts .none) (taken-none [])
+  taken (suc m) [] = rw none-of (taken-none [])
   taken (suc m) (a ∷ s) =
-      let f = cuts .first a s in
+      let f = first-of a s in
       rw (f .view) (taken-first f (taken m (drop (f .token .len) (a ∷ s))))
 
   -- one at least, of one byte at least, where there is text
   pub taken-some : (m : ℕ) (s : List ℕ) → 1 ≤ length s → 1 ≤ total (take (suc m) (cutter s))
   taken-some m [] h = absurd (omega arith)
-  taken-some m (a ∷ s) h = let f = cuts .first a s in rw (f .view) (omega (arith, f .some))
+  taken-some m (a ∷ s) h = let f = first-of a s in rw (f .view) (omega (arith, f .some))
 
   -- all of them: at most eleven bytes for each byte of the text
   pub key-few-by : (s : List ℕ) → length (keyBy cutter s) ≤ 11 * length s
   unfolding keyBy membersBy counted keyOf
   key-few-by =
-      by-length (λ (s : List ℕ). length (keyBy cutter s) ≤ 11 * length s) (rw (cuts .none) (omega arith))
+      by-length (λ (s : List ℕ). length (keyBy cutter s) ≤ 11 * length s) (rw none-of (omega arith))
       (λ a s ih.
-      let f = cuts .first a s in
+      let f = first-of a s in
       let n = f .token .len in
       omega (arith, ap length (key-first f), length-append (adds f) (keyBy cutter (drop n (a ∷ s))), adds-few f, f .some, f .within, ih (drop n (a ∷ s)) (omega (arith, f .some, length-drop n (a ∷ s))), length-drop n (a ∷ s)))

@@ -2,7 +2,7 @@
 -- Assumes nothing.
 use Prim.Native.Nat.{ℕ, _/_, _≤_, _<_}
 use native.Mathlib.Omega.{arith}
-use mathlib.Core.Path.{_≡_, refl, sym, subst, _∙_}
+use mathlib.Core.Path.{_≡_, refl, ap, sym, subst, _∙_}
 use mathlib.Core.Bool.{true, false}
 use mathlib.Core.List.{List}
 use lib.Dec.{eqb, ltb}
@@ -10,8 +10,9 @@ use lib.ListN.{length, take, drop}
 use lib.Seq.{take-append-seam}
 use borrow.Author.Tests.{eq-eqb, eqb-true}
 use Rattle.lists.proofs.Bools.{by-test, on-cond}
-use Rattle.text.specs.Answer.{Answered, done, roomTooSmall, checkCut}
+use Rattle.text.specs.Answer.{Answered, done, roomTooSmall, knownProfile, checkCut}
 use Rattle.text.specs.Steps.{Entered}
+use Rattle.text.proofs.Checks.{cut-passed}
 use Rattle.text.proofs.Room as room
 use Rattle.cutters.specs.Records.{Token}
 use Rattle.lexer.specs.Cut.{Letters}
@@ -20,8 +21,9 @@ use Rattle.ucd.specs.Ucd.{xidStart, xidContinue, emoji}
 use Rattle.lexer.specs.Unicode.{lent}
 use Rattle.lexer.specs.Promises.{tokens3, tokensOf, tokensBy}
 use Rattle.lexer.proofs.Unicode.{lent-is}
-use Rattle.tokens.specs.Members.{membersOf}
-use Rattle.renewal.specs.Key.{keyBy, keyOfText}
+use Rattle.tokens.specs.Members.{members3, membersOf}
+use Rattle.tokens.proofs.OpenQasm.{members-known}
+use Rattle.renewal.specs.Key.{keyOf, keyBy, keyOfText}
 use Rattle.renewal.specs.Promises.{answerOf, keyed, Keyed}
 use Rattle.renewal.specs.Steps.{Walked, StoredKey}
 use Rattle.renewal.proofs.Keyable.{keyable}
@@ -57,8 +59,8 @@ stored-twice cutter {s} {key} {key′} {key″} {n} {m} v l w k a =
     stored cutter w′ (omega (arith, v .size, w .size, h)) k (omega (arith, v .size, w .size))
 
 -- over the constant tables
-pub lent-stored : (profile : ℕ) (s : List ℕ) {number also : ℕ} {key key′ : List ℕ} → StoredKey (tokensBy (lent (flat xidStart) (flat xidContinue) (flat emoji)) profile) s key number also key′ → StoredKey (tokensOf profile) s key number also key′
-unfolding tokensOf tokens3
+pub lent-stored : (profile : ℕ) (s : List ℕ) {number also : ℕ} {key key′ : List ℕ} → StoredKey (tokensBy (lent (flat xidStart) (flat xidContinue) (flat emoji)) profile) s key number also key′ → StoredKey (tokens3 profile) s key number also key′
+unfolding tokens3
 lent-stored profile s {number} {also} {key} {key′} r = subst (λ (u : Letters). StoredKey (tokensBy u profile) s key number also key′) lent-is r
 
 -- ---- the whole
@@ -69,8 +71,15 @@ keyed-by e = record { answer = e .answer; key-is = e .memory }
 pub keyed-refused : {s key key′ : List ℕ} {profile number also : ℕ} → Answered (checkCut s profile) number also → (number ≡ done → ⊥) → key′ ≡ key → Keyed s profile key number also key′
 keyed-refused a n e = keyed-by (room.refused a n e)
 
-pub keyed-done : {s key key′ : List ℕ} {profile n₀ a₀ number also : ℕ} → Answered (checkCut s profile) n₀ a₀ → n₀ ≡ done → StoredKey (tokensOf profile) s key number also key′ → Keyed s profile key number also key′
-keyed-done c z r = keyed-by (room.passed c z r)
+-- under a known profile the key is that of OpenQASM 3
+key-known : (profile : ℕ) (s : List ℕ) → knownProfile profile ≡ true → keyBy (tokens3 profile) s ≡ keyBy (tokensOf profile) s
+unfolding keyBy members3 membersOf
+key-known profile s h = ap keyOf (sym (members-known profile s h))
+
+pub keyed-done : {s key key′ : List ℕ} {profile n₀ a₀ number also : ℕ} → Answered (checkCut s profile) n₀ a₀ → n₀ ≡ done → StoredKey (tokens3 profile) s key number also key′ → Keyed s profile key number also key′
+keyed-done {s} {profile = profile} c z r =
+    let e = key-known profile s (cut-passed s profile c z .known) in
+    keyed-by (room.passed c z (rw e at r))
 
 -- ---- what a call that is done has written: the key of an accepted text
 pub done-accepted : {s : List ℕ} {profile : ℕ} {key : List ℕ} {a : ℕ} {key′ : List ℕ} → Keyed s profile key done a key′ → checkCut s profile .0 ≡ done

@@ -5,10 +5,11 @@ use mathlib.Core.Bool.{true, cond, not}
 use mathlib.Core.List.{List, [], _∷_}
 use Prim.Native.Nat.{ℕ, _≤_}
 use lib.Dec.{eqb}
-use lib.ListN.{length, drop}
+use lib.ListN.{length}
 use Rattle.text.specs.Answer.{longest}
 use Rattle.lexer.specs.Kinds.{atSign, slashMark, marks}
 use Rattle.cutters.specs.Records.{Token}
+use Rattle.cutters.specs.Cutter.{Cutter, cutBytes}
 use Rattle.tokens.specs.Members.{Member, isCounted, memberOf}
 use Rattle.renewal.specs.Key.{noBody, bodyLength}
 
@@ -32,17 +33,10 @@ pub data Ruled (m : Member) : Type 0 where
   mark : bodyLength (m .kind) ≡ 0 → m .len ≡ length (ownBytes (m .kind)) → m .suffix ≡ 0 → m .bytes ≡ ownBytes (m .kind) → Ruled m
   stored : (bodyLength (m .kind) ≡ 0 → ⊥) → Allowed m → Ruled m
 
--- ---- a cutter on bytes gives the tokens of any text from its bytes. What the key asks of it: of a text that is not empty the first token takes
--- at least one byte, the tokens of what is left follow, its kind stands in keys exactly where it is counted, and then, in a text that
--- is not too long, it obeys the rules
-pub record First (cutter : List ℕ → List Token) (s : List ℕ) : Type 0 where
-  pub token : Token
-  pub some : 1 ≤ token .len
-  pub within : token .len ≤ length s
-  pub view : cutter s ≡ token ∷ cutter (drop (token .len) s)
-  pub known : eqb (bodyLength (token .kind)) noBody ≡ not (isCounted (token .kind))
-  pub ruled : (length s ≤ longest → isCounted (token .kind) ≡ true → Ruled (memberOf s token))
-
-pub record Keyable (cutter : List ℕ → List Token) : Type 0 where
-  pub none : cutter [] ≡ []
-  pub first : (a : ℕ) (s : List ℕ) → First cutter (a ∷ s)
+-- ---- what the key asks of a function that gives the tokens of any text from its bytes: it cuts as some cutter does; the kind of a token stands
+-- in keys exactly where it is counted; and then, in a text that is not too long, the token obeys the rules
+pub record Keyable (tokens : List ℕ → List Token) : Type 0 where
+  pub cutter : Cutter
+  pub cuts : (s : List ℕ) → tokens s ≡ cutBytes cutter s
+  pub known : (a : ℕ) (s : List ℕ) → eqb (bodyLength (cutter .next a s .kind)) noBody ≡ not (isCounted (cutter .next a s .kind))
+  pub ruled : (a : ℕ) (s : List ℕ) → length (a ∷ s) ≤ longest → isCounted (cutter .next a s .kind) ≡ true → Ruled (memberOf (a ∷ s) (cutter .next a s))

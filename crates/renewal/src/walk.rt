@@ -4,7 +4,7 @@ ghost use mathlib.Core.Bool.{true};
 ghost use Prim.Native.Nat.{_≤_};
 ghost use lib.ListN.{length};
 ghost use Rattle.text.specs.Answer.{longest};
-ghost use Rattle.lexer.specs.Promises.{tokensOf, tokensBy};
+ghost use Rattle.lexer.specs.Promises.{tokens3, tokensBy};
 ghost use Rattle.lexer.specs.Unicode.{lent};
 ghost use Rattle.renewal.specs.Key.{keyBy};
 ghost use Rattle.renewal.specs.Steps.{bodies, Walked, StoredKey};
@@ -78,7 +78,7 @@ fn store(
 // Lends the tables, once for the whole text.
 pub fn lend(text: &[u8], profile: u32, key: &mut [u8]) -> Answer
     requires { ⌜ length (now text) ≤ longest ⌝ }
-    ensures { λ r. ⌜ StoredKey (tokensOf profile) (now (text .entry)) (now (key .entry)) (r .number) (r .also) (now (key .exit)) ⌝ }
+    ensures { λ r. ⌜ StoredKey (tokens3 profile) (now (text .entry)) (now (key .entry)) (r .number) (r .also) (now (key .exit)) ⌝ }
 {
     store(
         text,

@@ -2,7 +2,7 @@
 -- Assumes nothing.
 use Prim.Native.Nat.{ℕ, _-_, _*_, _/_, _≤_, _<_}
 use native.Mathlib.Omega.{arith}
-use mathlib.Core.Path.{_≡_, refl, sym, _∙_, subst}
+use mathlib.Core.Path.{_≡_, refl, ap, sym, _∙_, subst}
 use mathlib.Core.Bool.{true, false}
 use mathlib.Core.List.{List, [], _∷_}
 use lib.Dec.{ltb, eqb}
@@ -21,7 +21,7 @@ use Rattle.lexer.specs.Unicode.{unicode, lent}
 use Rattle.lexer.specs.Promises.{tokens3, tokensOf, front, tokensBy}
 use Rattle.listing.specs.Promises.{answerOf, Listed, run, TokenAt}
 use Rattle.lexer.proofs.Unicode.{lent-is}
-use Rattle.lexer.proofs.Places.{few-tokens}
+use Rattle.lexer.proofs.Places.{few-tokens, known3}
 use Rattle.rows.specs.Rows.{recordOf, records, rowed, Rowed}
 use Rattle.rows.specs.Steps.{recordAt, Judged, Filled}
 use Rattle.rows.specs.declared.Token.{Token}
@@ -62,6 +62,11 @@ thirds room = omega arith
 abbrev need : List ℕ → ℕ → ℕ
 need s profile = length (tokensOf profile s)
 
+-- the tokens of a text that passes the checks are those of OpenQASM 3
+own : (s : List ℕ) (profile : ℕ) → checkCut s profile .0 ≡ done → tokensOf profile s ≡ tokensBy unicode profile s
+unfolding tokens3
+own s profile h = known3 profile s (cut-accepted s profile h .known)
+
 -- refusal 4 is of the room alone, with the need
 told-need : {s list′ : List ℕ} {profile number also : ℕ} → Listed s profile (0 ∷ []) number also list′ → number ≡ roomTooSmall → (checkCut s profile .0 ≡ done) × (also ≡ (need s profile))
 unfolding answerOf
@@ -76,13 +81,13 @@ told-need {s} {profile = profile} {number} l n =
 
 module _ {s : List ℕ} {profile room number also : ℕ} where
   pub judged-roomy : length s ≤ room → Answered (checkCut s profile) number also → Judged s profile room number also
-  unfolding answerOf tokens3 tokensOf
+  unfolding answerOf
   judged-roomy h a =
       by-test (eqb (checkCut s profile .0) done)
       (λ t.
       let z : number ≡ done = a .number-is ∙ eqb-true _ _ t in
       record {
-        number-is = rw (t, thirds room, le-ltb room (length (tokensBy unicode profile s)) (omega (arith, few-tokens unicode profile s))) z;
+        number-is = rw (t, thirds room, le-ltb room (need s profile) (omega (arith, few-tokens unicode profile s, ap length (own s profile (eqb-true _ _ t))))) z;
         also-is = λ n. absurd (n z);
       })
       (λ t. record { number-is = rw t (a .number-is); also-is = λ n. rw t (a .also-is) })
@@ -143,20 +148,20 @@ module _ {s : List ℕ} {profile number also : ℕ} (row : List Token) (j : Judg
       (λ t. let e : number ≡ checkCut s profile .0 = rw t at (j .number-is) in absurd (eqb-false _ _ t (sym e ∙ z)))
 
   pub judged-passed : (length s ≤ longest) × (length (tokensBy unicode profile s) ≤ length row)
-  unfolding tokens3 tokensOf
-  judged-passed = (cut-accepted s profile (passes .0) .text .short, passes .1)
+  judged-passed = (cut-accepted s profile (passes .0) .text .short, omega (arith, passes .1, ap length (own s profile (passes .0))))
 
   answer-is : answerOf s profile (recordWords * length row) ≡ (done, need s profile)
   unfolding answerOf
   answer-is = rw (eq-eqb _ _ (passes .0), thirds (length row), le-ltb (length row) (need s profile) (passes .1))
 
   pub rowed-done : {n number′ also′ : ℕ} {row′ : List Token} → Filled unicode profile s row n row′ → Answered (done, n) number′ also′ → Rowed s profile row number′ also′ row′
-  unfolding tokens3 tokensOf rowed
+  unfolding rowed
   rowed-done {n} f a =
+      let e = own s profile (passes .0) in
       let k : length (records (tokensBy unicode profile s)) ≡ n = length-records (tokensBy unicode profile s) ∙ sym (f .count) in
       record {
-        answer = rw answer-is (record { number-is = a .number-is; also-is = a .also-is ∙ f .count });
-        row-is = rw (answer-is, k) (f .row-is);
+        answer = rw answer-is (record { number-is = a .number-is; also-is = a .also-is ∙ f .count ∙ ap length (sym e) });
+        row-is = rw (answer-is, e, k) (f .row-is);
       }
 
 -- ---- the tables as they are handed over

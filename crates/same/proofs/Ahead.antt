@@ -16,7 +16,8 @@ use Rattle.lexer.specs.Promises.{front, tokensBy}
 use Rattle.listing.specs.Promises.{run, TokenAt}
 use Rattle.listing.proofs.Whole.{one-start, one-end}
 use Rattle.tokens.specs.Members.{isCounted, memberOf, counted, membersBy}
-use Rattle.renewal.specs.Rules.{First, Keyable}
+use Rattle.renewal.specs.Rules.{Keyable}
+use Rattle.renewal.proofs.Runs.{First, none-of, first-of}
 use Rattle.renewal.proofs.Keyable.{keyable}
 use Rattle.same.specs.Compare.{sights}
 use Rattle.same.specs.Steps.{memberAt, sightAt, membersFrom, sightsFrom, Ahead}
@@ -43,9 +44,9 @@ module _ (t : Token) (ts : List Token) where
 same-token : (t : Token) {k l m : ℕ} → k ≡ t .kind → l ≡ t .len → m ≡ t .suffix → _≡_ {A = Token} (record { kind = k; len = l; suffix = m }) t
 same-token t e f g = rw (e, f, g)
 
-first-of : {cut : List ℕ → List Token} → Keyable cut → (s : List ℕ) → 1 ≤ length s → First cut s
-first-of c [] h = absurd (omega arith)
-first-of c (a ∷ s) h = c .first a s
+some-first : {cut : List ℕ → List Token} → Keyable cut → (s : List ℕ) → 1 ≤ length s → First cut s
+some-first c [] h = absurd (omega arith)
+some-first c (a ∷ s) h = first-of c a s
 
 module _ {u : Letters} {profile : ℕ} {s : List ℕ} {at kind suffixAt end : ℕ} (short : length s ≤ longest) (h : at < length s) (a : TokenAt u profile s at kind suffixAt end) where
   abbrev tok : Token
@@ -55,7 +56,7 @@ module _ {u : Letters} {profile : ℕ} {s : List ℕ} {at kind suffixAt end : �
   cut = tokensBy u profile
 
   here : First cut (drop at s)
-  here = first-of (keyable u profile) (drop at s) (omega (arith, length-drop at s))
+  here = some-first (keyable u profile) (drop at s) (omega (arith, length-drop at s))
 
   here-is : front (run u profile s at 1) ≡ here .token
   unfolding run front
@@ -130,7 +131,7 @@ module _ {u : Letters} {profile : ℕ} {s : List ℕ} {from at kind suffixAt end
 pub seeking-end : (u : Letters) (profile : ℕ) {s : List ℕ} {from at : ℕ} → Seeking (tokensBy u profile) s from at → length s ≤ at → Ahead (tokensBy u profile) s from eof at at at
 unfolding membersBy counted sights
 seeking-end u profile {s} {from} {at} w h =
-    let z : tokensBy u profile (drop at s) ≡ [] = rw (drop-of-length-le s {i = at} h) (keyable u profile .none) in
+    let z : tokensBy u profile (drop at s) ≡ [] = rw (drop-of-length-le s {i = at} h) (none-of (keyable u profile)) in
     record {
       place = record { before-suffix = omega arith; before-end = omega arith; within = w .within };
       after = w .after;

@@ -9,10 +9,12 @@ use lib.ListN.{length, drop, getD, length-drop}
 use lib.Seq.{drop-drop}
 use Rattle.lists.specs.All.{Each}
 use Rattle.lists.proofs.Cut.{by-length}
+use Rattle.text.specs.Answer.{knownProfile}
 use Rattle.cutters.specs.Records.{Token}
 use Rattle.lexer.specs.Promises.{tokensOf}
 use Rattle.tokens.specs.Members.{Member, isCounted, memberOf, counted, membersBy, membersOf}
 use Rattle.renewal.specs.Rules.{Keyable}
+use Rattle.renewal.proofs.Runs.{none-of, first-of}
 use Rattle.renewal.proofs.Keyable.{profile-keyable}
 use Rattle.same.specs.Compare.{Sight, sights, endOf, shows}
 
@@ -22,9 +24,9 @@ Some t = 1 ≤ t .len
 
 each-some : {cutter : List ℕ → List Token} → Keyable cutter → (s : List ℕ) → Each Some (cutter s)
 each-some {cutter} k =
-    by-length (λ (s : List ℕ). Each Some (cutter s)) (rw (k .none) tt)
+    by-length (λ (s : List ℕ). Each Some (cutter s)) (rw (none-of k) tt)
     (λ a s ih.
-    let f = k .first a s in
+    let f = first-of k a s in
     rw (f .view) (f .some, ih (drop (f .token .len) (a ∷ s)) (omega (arith, length-drop (f .token .len) (a ∷ s), f .some, f .within))))
 
 shows-from : (s : List ℕ) (at : ℕ) (ts : List Token) → Each Some ts → shows s (sights at ts) (counted (drop at s) ts)
@@ -41,9 +43,9 @@ shows-from s at (t ∷ ts) f =
     go false r = r
 
 -- ---- EACH IS SHOWN, one by one, and nothing else is
-pub all-shown : (profile : ℕ) (s : List ℕ) → shows s (sights 0 (tokensOf profile s)) (membersOf profile s)
+pub all-shown : (profile : ℕ) (s : List ℕ) → knownProfile profile ≡ true → shows s (sights 0 (tokensOf profile s)) (membersOf profile s)
 unfolding membersOf membersBy
-all-shown profile s = shows-from s 0 (tokensOf profile s) (each-some (profile-keyable profile) s)
+all-shown profile s h = shows-from s 0 (tokensOf profile s) (each-some (profile-keyable profile h) s)
 
 -- ---- the end
 some-at : (s : List ℕ) (vs : List Sight) (ms : List Member) (n : ℕ) (d : Sight) → shows s vs ms → n < length ms → 1 ≤ getD vs n d .len
@@ -63,8 +65,8 @@ none-at s (v ∷ vs) (m ∷ ms) zero d x h = absurd (omega arith)
 none-at s (v ∷ vs) (m ∷ ms) (suc n) d x h = none-at s vs ms n d (x .4) (omega arith)
 
 -- the length that is shown is 0 only at the end
-pub end-shown : (profile : ℕ) (s : List ℕ) (n : ℕ) →
+pub end-shown : (profile : ℕ) (s : List ℕ) (n : ℕ) → knownProfile profile ≡ true →
     (n < length (membersOf profile s) → 1 ≤ getD (sights 0 (tokensOf profile s)) n (endOf s) .len) × (length (membersOf profile s) ≤ n → getD (sights 0 (tokensOf profile s)) n (endOf s) ≡ endOf s)
-end-shown profile s n =
-    let x = all-shown profile s in
+end-shown profile s n h =
+    let x = all-shown profile s h in
     (some-at s (sights 0 (tokensOf profile s)) (membersOf profile s) n (endOf s) x, none-at s (sights 0 (tokensOf profile s)) (membersOf profile s) n (endOf s) x)

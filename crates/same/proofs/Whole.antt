@@ -11,12 +11,14 @@ use borrow.Author.Tests.{eq-eqb, ne-eqb, eqb-true}
 use Rattle.lists.proofs.Bools.{by-test, both}
 use Rattle.unicode.specs.Ranges.{flat}
 use Rattle.ucd.specs.Ucd.{xidStart, xidContinue, emoji}
-use Rattle.text.specs.Answer.{Answered, done, checkCut}
+use Rattle.text.specs.Answer.{Answered, done, knownProfile, checkCut}
+use Rattle.text.proofs.Checks.{cut-passed}
 use Rattle.lexer.specs.Cut.{Letters}
 use Rattle.lexer.specs.Unicode.{lent}
 use Rattle.lexer.specs.Promises.{tokens3, tokensOf, tokensBy}
 use Rattle.lexer.proofs.Unicode.{lent-is}
-use Rattle.tokens.specs.Members.{Member, membersOf}
+use Rattle.lexer.proofs.Places.{known3}
+use Rattle.tokens.specs.Members.{Member, membersBy, membersOf}
 use Rattle.renewal.specs.Key.{keyOfText}
 use Rattle.renewal.proofs.Exactly.{exactly-when}
 use Rattle.same.specs.Compare.{Sight, Comparison, Shown, Compared, agree, same, different, oldRefused, newRefused, partedBy, refusedBy, compared}
@@ -25,10 +27,15 @@ use Rattle.same.proofs.Alike.{agree-all, agree-self}
 -- ---- over the constant tables
 pub lent-parted : (profile : ℕ) (s s′ : List ℕ) {verdict number also agreed k o l k′ o′ l′ : ℕ} →
     Compared (partedBy (tokensBy (lent (flat xidStart) (flat xidContinue) (flat emoji)) profile) s s′) verdict number also agreed k o l k′ o′ l′ →
-    Compared (partedBy (tokensOf profile) s s′) verdict number also agreed k o l k′ o′ l′
-unfolding tokensOf tokens3
+    Compared (partedBy (tokens3 profile) s s′) verdict number also agreed k o l k′ o′ l′
+unfolding tokens3
 lent-parted profile s s′ {verdict} {number} {also} {agreed} {k} {o} {l} {k′} {o′} {l′} c =
     subst (λ (u : Letters). Compared (partedBy (tokensBy u profile) s s′) verdict number also agreed k o l k′ o′ l′) lent-is c
+
+-- under a known profile the comparison is that of OpenQASM 3
+parted-known : (profile : ℕ) (s s′ : List ℕ) → knownProfile profile ≡ true → partedBy (tokensOf profile) s s′ ≡ partedBy (tokens3 profile) s s′
+unfolding partedBy membersBy
+parted-known profile s s′ h = rw (known3 profile s h, known3 profile s′ h)
 
 -- ---- the three ways
 accepted-test : (profile : ℕ) (s : List ℕ) {n a : ℕ} → Answered (checkCut s profile) n a → n ≡ done → eqb (checkCut s profile .0) done ≡ true
@@ -49,9 +56,10 @@ module _ (profile : ℕ) (s s′ : List ℕ) {verdict number also agreed k o l k
   new-refused c z c′ n r = rw (accepted-test profile s c z, refused-test profile s′ c′ n) (rw (c′ .number-is, c′ .also-is) at r)
 
   pub both-accepted : {n₀ a₀ n₁ a₁ : ℕ} → Answered (checkCut s profile) n₀ a₀ → n₀ ≡ done → Answered (checkCut s′ profile) n₁ a₁ → n₁ ≡ done →
-      Compared (partedBy (tokensOf profile) s s′) verdict number also agreed k o l k′ o′ l′ → Compared (compared profile s s′) verdict number also agreed k o l k′ o′ l′
+      Compared (partedBy (tokens3 profile) s s′) verdict number also agreed k o l k′ o′ l′ → Compared (compared profile s s′) verdict number also agreed k o l k′ o′ l′
   unfolding compared
-  both-accepted c z c′ z′ r = rw (accepted-test profile s c z, accepted-test profile s′ c′ z′) r
+  both-accepted c z c′ z′ r =
+      rw (accepted-test profile s c z, accepted-test profile s′ c′ z′, parted-known profile s s′ (cut-passed s profile c z .known)) r
 
 pub ruleset ways = (old-refused, new-refused, both-accepted)
 

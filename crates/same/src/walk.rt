@@ -4,7 +4,7 @@ ghost use Prim.Native.Nat.{_≤_};
 ghost use lib.ListN.{length};
 ghost use Rattle.text.specs.Answer.{longest};
 ghost use Rattle.lexer.specs.Unicode.{lent};
-ghost use Rattle.lexer.specs.Promises.{tokensOf, tokensBy};
+ghost use Rattle.lexer.specs.Promises.{tokens3, tokensBy};
 ghost use Rattle.tokens.specs.Members.{isCounted};
 ghost use Rattle.same.specs.Compare.{sameBytes, alike, partedBy, Compared, showing};
 ghost use Rattle.same.specs.Steps.{Within, memberAt, sightAt, Ahead};
@@ -159,7 +159,7 @@ fn part(
 // Lends the tables, once for both texts.
 pub fn lend(old: &[u8], new: &[u8], profile: u32) -> Comparison
     requires { ⌜ (length (now old) ≤ longest) × (length (now new) ≤ longest) ⌝ }
-    ensures { λ r. ⌜ Compared (partedBy (tokensOf profile) (now (old .entry)) (now (new .entry))) (r .verdict) (r .refusal .number) (r .refusal .also) (r .agreed) (r .old .kind) (r .old .start) (r .old .len) (r .new .kind) (r .new .start) (r .new .len) ⌝ }
+    ensures { λ r. ⌜ Compared (partedBy (tokens3 profile) (now (old .entry)) (now (new .entry))) (r .verdict) (r .refusal .number) (r .refusal .also) (r .agreed) (r .old .kind) (r .old .start) (r .old .len) (r .new .kind) (r .new .start) (r .new .len) ⌝ }
 {
     part(
         old,

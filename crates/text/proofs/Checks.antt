@@ -64,6 +64,13 @@ cut-accepted s p h =
     (λ e. record { known = e; text = accepted s (rw e at h) })
     (λ e. absurd (omega (arith, rw e at h)))
 
+-- as an answer tells it
+pub cut-passed : (s : List ℕ) (p : ℕ) {n a : ℕ} → Answered (checkCut s p) n a → n ≡ done → CutAccepted s p
+cut-passed s p c z = cut-accepted s p (sym (c .number-is) ∙ z)
+
+pub cut-short : (s : List ℕ) (p : ℕ) {n a : ℕ} → Answered (checkCut s p) n a → n ≡ done → length s ≤ longest
+cut-short s p c z = cut-passed s p c z .text .short
+
 -- and such a text is not refused
 pub cut-passes : (s : List ℕ) (p : ℕ) → CutAccepted s p → checkCut s p ≡ (done, 0)
 unfolding checkCut

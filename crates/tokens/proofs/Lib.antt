@@ -1,3 +1,4 @@
 pub mod Tiling
+pub mod OpenQasm
 pub mod Agree
 pub mod Profiles

@@ -31,7 +31,7 @@ use Rattle.modes.specs.Modes.{isRaw, isSingle, charactersShouldBeAscii, byteMod
 use Rattle.modes.specs.Errors.{Outcome, error, number}
 use Rattle.unescape.specs.Escapes.{escape}
 use Rattle.unescape.specs.Bodies.{Item, given, charOrByte, strChar, rawChar, isSkipped, sawLf, item, one, unskipped, skipped, slashed, strCommon, rawStr, turn, turns, items, itemsOf, flat}
-use Rattle.unescape.specs.Steps.{endOf, stepOf, Scanned, onFirst, Stepped, wordsOf, Walked, StoredItems}
+use Rattle.unescape.specs.Steps.{endOf, stepOf, Scanned, onFirst, Stepped, itemWords, Walked, StoredItems}
 use Rattle.unescape.specs.Promises.{answerOf, listed, Unescaped, part, single}
 use Rattle.unescape.proofs.Fair.{allows-any, escape-fair}
 use Rattle.unescape.proofs.Turns.{place-of}
@@ -48,21 +48,21 @@ unfolding flat
 flat-append [] b = refl
 flat-append (i ∷ a) b = rw (flat-append a b)
 
-flat-given : (b : Bool) (i : Item) → flat (given b i) ≡ wordsOf b (i .start) (i .end) (i .outcome)
+flat-given : (b : Bool) (i : Item) → flat (given b i) ≡ itemWords b (i .start) (i .end) (i .outcome)
 unfolding flat
 flat-given true i = refl
 flat-given false i = refl
 
 -- ---- one item stored
 module _ (write some : Bool) {list : List ℕ} (n start end outcome : ℕ) where
-  pub put-none : {r : ℕ} → not some ≡ true → r ≡ 3 * n → PutIf write list (3 * n) (wordsOf some start end outcome) list r
+  pub put-none : {r : ℕ} → not some ≡ true → r ≡ 3 * n → PutIf write list (3 * n) (itemWords some start end outcome) list r
   put-none t e = rw (not-true some t) (record { same = by-test write (λ h. rw h) (λ h. rw h); next = omega arith })
 
-  pub put-count : {r : ℕ} → not some ≡ false → not write ≡ true → r ≡ 3 * (n + 1) → PutIf write list (3 * n) (wordsOf some start end outcome) list r
+  pub put-count : {r : ℕ} → not some ≡ false → not write ≡ true → r ≡ 3 * (n + 1) → PutIf write list (3 * n) (itemWords some start end outcome) list r
   put-count t w e = rw (not-false some t, not-true write w) (record { same = refl; next = omega arith })
 
   pub put-store : {r : ℕ} {list′ : List ℕ} → not some ≡ false → not write ≡ false → list′ ≡ set (set (set list (3 * n) start) (3 * n + 1) end) (3 * n + 2) outcome → r ≡ 3 * (n + 1) →
-      PutIf write list (3 * n) (wordsOf some start end outcome) list′ r
+      PutIf write list (3 * n) (itemWords some start end outcome) list′ r
   put-store t w e f =
       rw (not-false some t, not-false write w) (record { same = e ∙ rw (add-one, add-two); next = omega arith })
 
@@ -144,39 +144,39 @@ pub record Walking (mode : ℕ) (s : List ℕ) (write : Bool) (list₀ : List �
 
 -- in the middle of a turn: its second item is to come
 pub record Half (mode : ℕ) (s : List ℕ) (write : Bool) (list₀ : List ℕ) (at : ℕ) (r : Step) (n : ℕ) (list : List ℕ) : Type 0 where
-  pub storing : Storing (flat (turns mode (length s) (chars s))) write list₀ (wordsOf (r .space) at (r .past) 1114133 ++ flat (turns mode (length s) (left s (r .at)))) (3 * n) list
+  pub storing : Storing (flat (turns mode (length s) (chars s))) write list₀ (itemWords (r .space) at (r .past) 1114133 ++ flat (turns mode (length s) (left s (r .at)))) (3 * n) list
 
 pub walking-none : (mode : ℕ) (s : List ℕ) (write : Bool) (list : List ℕ) → Walking mode s write list 0 0 list
 walking-none mode s write list = record { within = omega arith; storing = storing-none (flat (turns mode (length s) (chars s))) write list }
 
 module _ (mode : ℕ) {s : List ℕ} {at : ℕ} {r : Step} (h : at < length s) (q : Stepped (onFirst (turn mode (length s)) (left s at)) s at r) where
   -- the words of the turn at the front
-  front : flat (turns mode (length s) (left s at)) ≡ wordsOf (r .some) at (r .at) (r .outcome) ++ (wordsOf (r .space) at (r .past) 1114133 ++ flat (turns mode (length s) (left s (r .at))))
+  front : flat (turns mode (length s) (left s at)) ≡ itemWords (r .some) at (r .at) (r .outcome) ++ (itemWords (r .space) at (r .past) 1114133 ++ flat (turns mode (length s) (left s (r .at))))
   front =
       let x = onFirst (turn mode (length s)) (left s at) in
       let a : Item = record { start = at; end = r .at; outcome = r .outcome } in
       let b : Item = record { start = at; end = r .past; outcome = 1114133 } in
       let e : turns mode (length s) (left s at) ≡ x .0 ++ turns mode (length s) (x .1) = rw (point-at s at h .view) (turns-cons mode (length s) _ _) in
       ap flat e ∙ flat-append (x .0) (turns mode (length s) (x .1))
-      ∙ rw (q .gives, ← q .place .there, flat-append (given (r .some) a) (given (r .space) b), flat-given (r .some) a, flat-given (r .space) b) (append-assoc (wordsOf (r .some) at (r .at) (r .outcome)) (wordsOf (r .space) at (r .past) 1114133) (flat (turns mode (length s) (left s (r .at)))))
+      ∙ rw (q .gives, ← q .place .there, flat-append (given (r .some) a) (given (r .space) b), flat-given (r .some) a, flat-given (r .space) b) (append-assoc (itemWords (r .some) at (r .at) (r .outcome)) (itemWords (r .space) at (r .past) 1114133) (flat (turns mode (length s) (left s (r .at)))))
 
   module _ {write : Bool} {list₀ list : List ℕ} {n : ℕ} (w : Walking mode s write list₀ at n list) where
-    pub walk-first : {n′ : ℕ} {list′ : List ℕ} → PutIf write list (3 * n) (wordsOf (r .some) at (r .at) (r .outcome)) list′ (3 * n′) → Half mode s write list₀ at r n′ list′
+    pub walk-first : {n′ : ℕ} {list′ : List ℕ} → PutIf write list (3 * n) (itemWords (r .some) at (r .at) (r .outcome)) list′ (3 * n′) → Half mode s write list₀ at r n′ list′
     walk-first p = record { storing = storing-on (rw front at (w .storing)) p }
 
     pub walk-room : (write ≡ true → length (flat (turns mode (length s) (chars s))) ≤ length list₀) → write ≡ true → r .some ≡ true → 3 * n + 3 ≤ length list
     walk-room k t e =
-        let f : length (flat (turns mode (length s) (left s at))) ≡ 3 + length (wordsOf (r .space) at (r .past) 1114133 ++ flat (turns mode (length s) (left s (r .at)))) = ap length front ∙ rw e (omega arith) in
+        let f : length (flat (turns mode (length s) (left s at))) ≡ 3 + length (itemWords (r .space) at (r .past) 1114133 ++ flat (turns mode (length s) (left s (r .at)))) = ap length front ∙ rw e (omega arith) in
         omega (arith, k t, w .storing .count, w .storing .long, f)
 
   module _ {write : Bool} {list₀ list : List ℕ} {n : ℕ} (w : Half mode s write list₀ at r n list) where
-    pub walk-second : {n′ : ℕ} {list′ : List ℕ} → PutIf write list (3 * n) (wordsOf (r .space) at (r .past) 1114133) list′ (3 * n′) → Walking mode s write list₀ (r .at) n′ list′
+    pub walk-second : {n′ : ℕ} {list′ : List ℕ} → PutIf write list (3 * n) (itemWords (r .space) at (r .past) 1114133) list′ (3 * n′) → Walking mode s write list₀ (r .at) n′ list′
     walk-second p = record { within = q .place .within; storing = storing-on (w .storing) p }
 
     pub half-room : (write ≡ true → length (flat (turns mode (length s) (chars s))) ≤ length list₀) → write ≡ true → r .space ≡ true → 3 * n + 3 ≤ length list
     half-room k t e =
-        let m : length (wordsOf (r .space) at (r .past) 1114133) ≡ 3 = rw e in
-        omega (arith, k t, w .storing .count, w .storing .long, m, length-append (wordsOf (r .space) at (r .past) 1114133) (flat (turns mode (length s) (left s (r .at)))))
+        let m : length (itemWords (r .space) at (r .past) 1114133) ≡ 3 = rw e in
+        omega (arith, k t, w .storing .count, w .storing .long, m, length-append (itemWords (r .space) at (r .past) 1114133) (flat (turns mode (length s) (left s (r .at)))))
 
 module _ {mode : ℕ} {s list₀ list : List ℕ} {write : Bool} {at n : ℕ} where
   pub walk-few : Walking mode s write list₀ at n list → n ≤ length s
@@ -201,7 +201,7 @@ pub single-within : (asciiOnly : Bool) {s : List ℕ} {read : Escape} {r : Step}
 single-within asciiOnly q e = rw e (q .place .within)
 
 pub single-walked : (asciiOnly write : Bool) {s list list′ : List ℕ} {read : Escape} {r : Step} {n : ℕ} → Scanned (charOrByte asciiOnly) s 0 read → r ≡ stepOf read →
-    PutIf write list (3 * 0) (wordsOf true 0 (r .at) (r .outcome)) list′ (3 * n) → Walked (one (length s) (chars s) (charOrByte asciiOnly (chars s)) .0) write list n list′
+    PutIf write list (3 * 0) (itemWords true 0 (r .at) (r .outcome)) list′ (3 * n) → Walked (one (length s) (chars s) (charOrByte asciiOnly (chars s)) .0) write list n list′
 unfolding flat
 single-walked asciiOnly write {s} {read = read} q e p =
     let x = charOrByte asciiOnly (chars s) in

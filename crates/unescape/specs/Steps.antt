@@ -72,8 +72,8 @@ onFirst f (c ∷ t) = f c t
 
 -- ---- the items of a whole body
 -- the words of one item, where there is one
-abbrev pub wordsOf : Bool → ℕ → ℕ → ℕ → List ℕ
-wordsOf some start end outcome = cond some (start ∷ end ∷ outcome ∷ []) []
+abbrev pub itemWords : Bool → ℕ → ℕ → ℕ → List ℕ
+itemWords some start end outcome = cond some (start ∷ end ∷ outcome ∷ []) []
 
 -- one walk over a body, which counts its items, and stores them where it is told to
 pub record Walked (all : List Item) (write : Bool) (list : List ℕ) (n : ℕ) (list′ : List ℕ) : Type 0 where

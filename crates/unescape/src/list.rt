@@ -7,7 +7,7 @@ ghost use Rattle.lists.specs.Steps.{PutIf};
 ghost use Rattle.unicode.specs.Utf8.{chars};
 ghost use Rattle.text.specs.Answer.{longest};
 ghost use Rattle.unescape.specs.Bodies.{charOrByte, one, turns, itemsOf, flat};
-ghost use Rattle.unescape.specs.Steps.{wordsOf, Walked, StoredItems};
+ghost use Rattle.unescape.specs.Steps.{itemWords, Walked, StoredItems};
 use crate::bodies::item;
 use crate::bodies::turn;
 use crate::bodies::unescape_char_or_byte;
@@ -26,7 +26,7 @@ fn put(
     outcome: u32,
 ) -> usize
     requires { ⌜ (n ≤ longest) × (start ≤ longest) × (end ≤ longest) × (write ≡ true → some ≡ true → 3 * n + 3 ≤ length (now list)) ⌝ }
-    ensures { λ r. ⌜ PutIf write (now (list .entry)) (3 * n) (wordsOf some start end outcome) (now (list .exit)) (3 * r) ⌝ }
+    ensures { λ r. ⌜ PutIf write (now (list .entry)) (3 * n) (itemWords some start end outcome) (now (list .exit)) (3 * r) ⌝ }
 {
     if !some {
         return n;

@@ -1,4 +1,5 @@
-use Rattle.listing.proofs.Whole.{listed-refused, listed-done, cut-short}
+use Rattle.text.proofs.Checks.{cut-short}
+use Rattle.listing.proofs.Whole.{listed-refused, listed-done}
 use borrow.Author.Needs.{needs}
 use Rattle.listing.proofs.tokenize.Statement.{statement}
 use Rattle.listing.proofs.tokenize.Tie as tie

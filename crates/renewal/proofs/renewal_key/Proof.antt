@@ -1,4 +1,4 @@
-use Rattle.listing.proofs.Whole.{cut-short}
+use Rattle.text.proofs.Checks.{cut-short}
 use Rattle.renewal.proofs.Whole.{keyed-refused, keyed-done}
 use borrow.Author.Needs.{needs}
 use Rattle.renewal.proofs.renewal_key.Statement.{statement}

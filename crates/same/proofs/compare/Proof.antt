@@ -1,4 +1,4 @@
-use Rattle.listing.proofs.Whole.{cut-short}
+use Rattle.text.proofs.Checks.{cut-short}
 use Rattle.same.proofs.Whole.{ways}
 use borrow.Author.Needs.{needs}
 use Rattle.same.proofs.compare.Statement.{statement}

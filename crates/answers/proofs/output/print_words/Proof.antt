@@ -5,16 +5,16 @@ use Rattle.answers.proofs.output.print_words.Statement.{statement}
 use Rattle.answers.proofs.output.print_words.Tie as tie
 
 abbrev Inv-loop : tie.InvT-loop
-Inv-loop list n records i₀ i = i ≤ length list
+Inv-loop list n width i₀ i = i ≤ length list
 
 abbrev μ-loop : tie.MeasureT-loop
-μ-loop list n records i₀ i = length list - i
+μ-loop list n width i₀ i = length list - i
 
 loop-holds : tie.Need-loop-holds Inv-loop μ-loop
 loop-holds c = search needs
 
-before-requires : tie.Need-before-requires Inv-loop μ-loop
-before-requires c κs = search needs
+div-if1 : tie.Need-div-if1 Inv-loop μ-loop
+div-if1 c = search needs
 
 returns : tie.Need-returns Inv-loop μ-loop
 returns c = search needs
@@ -24,6 +24,9 @@ mul-print-word c = search needs
 
 shared-slice-read-print-word : tie.Need-shared-slice-read-print-word Inv-loop μ-loop
 shared-slice-read-print-word c = search needs
+
+rem-print-word : tie.Need-rem-print-word Inv-loop μ-loop
+rem-print-word c = search needs
 
 print-word-requires : tie.Need-print-word-requires Inv-loop μ-loop
 print-word-requires c κs = search needs
@@ -47,10 +50,11 @@ print-words-spec =
     Inv-loop
     μ-loop
     loop-holds
-    before-requires
+    div-if1
     returns
     mul-print-word
     shared-slice-read-print-word
+    rem-print-word
     print-word-requires
     add-i
     loop-less
