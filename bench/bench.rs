@@ -19,6 +19,10 @@ extern "C" {
     fn oq3_unescape_literal(body: *const u8, body_len: usize, mode: u32, list: *mut u32, list_len: usize) -> Answer;
 }
 
+// how many words a token and an item have in the port's lists
+const WORDS: usize = 3;
+const ITEM_WORDS: usize = 3;
+
 // ---- tokens: the check for UTF-8, and the tokens collected
 #[inline(never)]
 #[no_mangle]
@@ -206,9 +210,9 @@ impl What {
     /// Room in which nothing is counted first.
     fn plenty(&self, text: &[u8]) -> usize {
         match self {
-            What::Tokens => 3 * text.len(),
+            What::Tokens => WORDS * text.len(),
             What::Key => 11 * text.len(),
-            What::Bodies(_) => 3 * (text.len() + 1),
+            What::Bodies(_) => ITEM_WORDS * (text.len() + 1),
         }
     }
 }

@@ -131,7 +131,7 @@ enum {
 };
 
 /*
- * A record of the list of tokens: three words. The tokens tile the text: the first starts at 0, each next one where the one before it ends, and
+ * A record of the list of tokens. The tokens tile the text: the first starts at 0, each next one where the one before it ends, and
  * each has at least one byte.
  */
 typedef struct oq3_token {
@@ -140,25 +140,25 @@ typedef struct oq3_token {
     uint32_t suffix; /* of a literal: where its suffix starts, from the token's first byte, `length` where it has none; else 0 */
 } oq3_token;
 
-/* How many words a record of a token or of an item has. */
-enum { OQ3_WORDS = 3 };
+/* How many words a record of a token has, and one of an item of a body. */
+enum { OQ3_WORDS = 3, OQ3_ITEM_WORDS = 3 };
 
 /*
  * The tokens of a text: OQ3_WORDS words for each, in order, from list[0] on. `words` is the room. Refuses with 1, 2, 3 and 4.
  *
- * With 0 exactly 3 * also words are written, and those behind them are as they were. A trailing part of a record, where `words` is no multiple
- * of three, is never written. `also` is in records, in the refusal too: room for `also` records is 3 * also words.
+ * With 0 exactly OQ3_WORDS * also words are written, and those behind them are as they were. A trailing part of a record, where `words` is no
+ * multiple of OQ3_WORDS, is never written. `also` is in records, in the refusal too: room for `also` records is OQ3_WORDS * also words.
  *
- * There are no more tokens than bytes: 3 * text_len words are always enough, and where they are there nothing is counted first, which is
- * about twice as fast. With less room the text is cut twice, since a refusal must leave the list as it was.
+ * There are no more tokens than bytes: OQ3_WORDS * text_len words are always enough, and where they are there nothing is counted first, which
+ * is about twice as fast. With less room the text is cut twice, since a refusal must leave the list as it was.
  *
- * An array of oq3_token has the same layout as the list: (uint32_t *)row and three times its records may be lent, or the row itself to the next one.
+ * An array of oq3_token has the same layout as the list: (uint32_t *)row and OQ3_WORDS times its records may be lent, or the row itself to the next one.
  */
 oq3_answer oq3_tokenize(const uint8_t *text, size_t text_len, uint32_t profile, uint32_t *list, size_t words);
 
 /*
- * The same with an array of structs: `records` is the room of the row. The answer is that of oq3_tokenize with 3 * records words, and with 0 the
- * first `also` records are the tokens; those behind them are as they were, and after a refusal all are.
+ * The same with an array of structs: `records` is the room of the row. The answer is that of oq3_tokenize with OQ3_WORDS * records words, and with 0
+ * the first `also` records are the tokens; those behind them are as they were, and after a refusal all are.
  */
 oq3_answer oq3_tokenize_rows(const uint8_t *text, size_t text_len, uint32_t profile, oq3_token *row, size_t records);
 
@@ -266,7 +266,7 @@ enum {
 /* Where the outcomes begin that are no characters: an outcome is a code point, or this plus the number of an error or warning. */
 #define OQ3_NO_CHAR UINT32_C(1114112)
 
-/* A record of the list of items: three words. Places count bytes from the body's first. */
+/* A record of the list of items. Places count bytes from the body's first. */
 typedef struct oq3_item {
     uint32_t start;
     uint32_t end;
@@ -274,11 +274,11 @@ typedef struct oq3_item {
 } oq3_item;
 
 /*
- * The items of a body: OQ3_WORDS words for each, in order. `words` is the room. Refuses with 1, 2, 3 and 4.
+ * The items of a body: OQ3_ITEM_WORDS words for each, in order. `words` is the room. Refuses with 1, 2, 3 and 4.
  *
  * What is written, and what `also` counts, is as with oq3_tokenize; an array of oq3_item may be lent. There are no more items than bytes, but for the
- * one item of an empty body in OQ3_MODE_CHAR or OQ3_MODE_BYTE: 3 * (body_len + 1) words are always enough, and where they are there
- * nothing is counted first.
+ * one item of an empty body in OQ3_MODE_CHAR or OQ3_MODE_BYTE: OQ3_ITEM_WORDS * (body_len + 1) words are always enough, and where they
+ * are there nothing is counted first.
  */
 oq3_answer oq3_unescape_literal(const uint8_t *body, size_t body_len, uint32_t mode, uint32_t *list, size_t words);
 

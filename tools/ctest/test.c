@@ -20,7 +20,7 @@ void *mmap(void *, size_t, int, int, int, long);
 /* the layouts that the archive has */
 typedef char answer_16[sizeof(oq3_answer) == 16 && offsetof(oq3_answer, also) == 8 ? 1 : -1];
 typedef char char_16[sizeof(oq3_char) == 16 && offsetof(oq3_char, wide) == 8 ? 1 : -1];
-typedef char token_12[sizeof(oq3_token) == 12 && sizeof(oq3_item) == 12 ? 1 : -1];
+typedef char records[sizeof(oq3_token) == 4 * OQ3_WORDS && sizeof(oq3_item) == 4 * OQ3_ITEM_WORDS ? 1 : -1];
 typedef char sight_24[sizeof(oq3_sight) == 24 && offsetof(oq3_sight, start) == 8 && offsetof(oq3_sight, length) == 16 ? 1 : -1];
 typedef char comparison_80[sizeof(oq3_comparison) == 80 && offsetof(oq3_comparison, refusal) == 8 && offsetof(oq3_comparison, agreed) == 24
                                    && offsetof(oq3_comparison, in_old) == 32 && offsetof(oq3_comparison, in_new) == 56
@@ -71,21 +71,21 @@ static bool clean(size_t n, size_t m) {
 /* ---- the functions that fill a list of records */
 typedef oq3_answer filler(const uint8_t *, size_t, uint32_t, uint32_t *, size_t);
 
-/* the row of structs, in the room of a list: what is left of three words is not lent */
+/* the row of structs, in the room of a list: a part of a record is not lent */
 static oq3_answer tokenize_rows(const uint8_t *text, size_t len, uint32_t profile, uint32_t *into, size_t room) {
     return oq3_tokenize_rows(text, len, profile, (oq3_token *)into, room / OQ3_WORDS);
 }
 
 /* the list in every kind of room: too small by a word and by all, as small as can be, with a part of a record behind, and plenty */
-static bool fills(filler *f, const uint8_t *text, size_t len, uint32_t selector, const uint32_t *want, size_t n) {
-    size_t need = OQ3_WORDS * n, room[6], i;
+static bool fills(filler *f, size_t width, const uint8_t *text, size_t len, uint32_t selector, const uint32_t *want, size_t n) {
+    size_t need = width * n, room[6], i;
     bool good = true;
     room[0] = 0;
     room[1] = need == 0 ? 0 : need - 1;
     room[2] = need;
     room[3] = need + 2;
-    room[4] = OQ3_WORDS * len;
-    room[5] = OQ3_WORDS * (len + 2);
+    room[4] = width * len;
+    room[5] = width * (len + 2);
     for (i = 0; i < 6; i++) {
         bool enough = need <= room[i];
         oq3_answer a;
@@ -146,12 +146,12 @@ static void lists(void) {
     size_t i;
     for (i = 0; i < sizeof tokens / sizeof *tokens; i++) {
         const sample *s = tokens + i;
-        check(fills(oq3_tokenize, BYTES(s->text), strlen(s->text), s->selector, s->want, s->n), s->text, __LINE__);
-        check(fills(tokenize_rows, BYTES(s->text), strlen(s->text), s->selector, s->want, s->n), s->text, __LINE__);
+        check(fills(oq3_tokenize, OQ3_WORDS, BYTES(s->text), strlen(s->text), s->selector, s->want, s->n), s->text, __LINE__);
+        check(fills(tokenize_rows, OQ3_WORDS, BYTES(s->text), strlen(s->text), s->selector, s->want, s->n), s->text, __LINE__);
     }
     for (i = 0; i < sizeof items / sizeof *items; i++) {
         const sample *s = items + i;
-        check(fills(oq3_unescape_literal, BYTES(s->text), strlen(s->text), s->selector, s->want, s->n), s->text, __LINE__);
+        check(fills(oq3_unescape_literal, OQ3_ITEM_WORDS, BYTES(s->text), strlen(s->text), s->selector, s->want, s->n), s->text, __LINE__);
     }
     /* an array of structs has the list's layout */
     {
@@ -296,10 +296,10 @@ typedef struct walker {
 
 static bool counted(walker *w) {
     for (; w->next < w->n; w->next++) {
-        uint32_t kind = w->list[3 * w->next];
+        uint32_t kind = w->list[OQ3_WORDS * w->next];
         if (kind != OQ3_KIND_WHITESPACE && kind != OQ3_KIND_LINE_COMMENT && kind != OQ3_KIND_BLOCK_COMMENT)
             return true;
-        w->at += w->list[3 * w->next + 1];
+        w->at += w->list[OQ3_WORDS * w->next + 1];
     }
     return false;
 }
@@ -307,9 +307,9 @@ static bool counted(walker *w) {
 static oq3_sight sight(walker *w) {
     oq3_sight s;
     bool some = counted(w);
-    s.kind = some ? w->list[3 * w->next] : 0;
+    s.kind = some ? w->list[OQ3_WORDS * w->next] : 0;
     s.start = w->at;
-    s.length = some ? w->list[3 * w->next + 1] : 0;
+    s.length = some ? w->list[OQ3_WORDS * w->next + 1] : 0;
     return s;
 }
 
@@ -325,10 +325,11 @@ static oq3_comparison model(const uint8_t *older, size_t n, const uint8_t *newer
     }
     a.n = (size_t)first.also, b.n = (size_t)second.also;
     a.next = a.at = b.next = b.at = 0;
-    while (counted(&a) && counted(&b) && memcmp(a.list + 3 * a.next, b.list + 3 * b.next, 12) == 0
-           && memcmp(older + a.at, newer + b.at, a.list[3 * a.next + 1]) == 0) {
-        a.at += a.list[3 * a.next++ + 1];
-        b.at += b.list[3 * b.next++ + 1];
+    /* alike in kind, length, suffix start and bytes */
+    while (counted(&a) && counted(&b) && memcmp(a.list + OQ3_WORDS * a.next, b.list + OQ3_WORDS * b.next, sizeof(uint32_t[3])) == 0
+           && memcmp(older + a.at, newer + b.at, a.list[OQ3_WORDS * a.next + 1]) == 0) {
+        a.at += a.list[OQ3_WORDS * a.next++ + 1];
+        b.at += b.list[OQ3_WORDS * b.next++ + 1];
         c.agreed++;
     }
     c.verdict = counted(&a) || counted(&b) ? OQ3_DIFFERENT : OQ3_SAME;
@@ -509,8 +510,8 @@ static void take_comparison(const uint8_t *text, size_t n, uint32_t selector, si
 
 static void take_others(const uint8_t *text, size_t n, uint32_t selector, size_t room) {
     size_t at;
-    oq3_unescape_literal(text, n, selector, list, OQ3_WORDS * room);
-    oq3_unescape_part(text, n, 1, n, selector, list, OQ3_WORDS * room);
+    oq3_unescape_literal(text, n, selector, list, OQ3_ITEM_WORDS * room);
+    oq3_unescape_part(text, n, 1, n, selector, list, OQ3_ITEM_WORDS * room);
     oq3_unescape_char(text, n), oq3_unescape_byte(text, n), oq3_is_ident(text, n);
     oq3_check_text(text, n), oq3_check_cut(text, n, selector), oq3_valid_up_to(text, n), oq3_place_of(text, n, n);
     for (at = 0; at < n; at += oq3_decode(text, n, at).wide) {
@@ -707,20 +708,20 @@ static void say_answer(oq3_answer a) {
     say(a.also, " ");
 }
 
-static void say_records(oq3_answer a) {
+static void say_records(oq3_answer a, size_t width) {
     size_t i;
     say_answer(a);
-    for (i = 0; a.number == 0 && i < OQ3_WORDS * a.also; i++)
-        say(list[i], i % OQ3_WORDS == 0 ? " " : ",");
+    for (i = 0; a.number == 0 && i < width * a.also; i++)
+        say(list[i], i % width == 0 ? " " : ",");
 }
 
 /* the records tile the text */
 static bool tiles(oq3_answer a) {
     size_t at = 0, i;
     for (i = 0; a.number == 0 && i < a.also; i++) {
-        if (list[3 * i + 1] == 0)
+        if (list[OQ3_WORDS * i + 1] == 0)
             return false;
-        at += list[3 * i + 1];
+        at += list[OQ3_WORDS * i + 1];
     }
     return a.number != 0 || at == text_len;
 }
@@ -753,17 +754,17 @@ static void body(void) {
         return;
     }
     for (i = 0; i < index; i++)
-        at += list[3 * i + 1];
-    end = at + list[3 * index + 2] - list[3 * index] % 2;
+        at += list[OQ3_WORDS * i + 1];
+    end = at + list[OQ3_WORDS * index + 2] - list[OQ3_WORDS * index] % 2;
     fresh();
-    say_records(oq3_unescape_part(text, text_len, at + 1, end, mode, list, OQ3_WORDS * (text_len + 1)));
+    say_records(oq3_unescape_part(text, text_len, at + 1, end, mode, list, OQ3_ITEM_WORDS * (text_len + 1)), OQ3_ITEM_WORDS);
 }
 
 /* the n tokens that were given, as rows */
 static void again(uint32_t profile, size_t n) {
     static uint32_t want[WORDS];
     memcpy(want, list, 4 * OQ3_WORDS * n);
-    check(fills(tokenize_rows, text, text_len, profile, want, n), line, __LINE__);
+    check(fills(tokenize_rows, OQ3_WORDS, text, text_len, profile, want, n), line, __LINE__);
 }
 
 /* the tasks that write; whether the line is one */
@@ -776,14 +777,14 @@ static bool writing(void) {
         selector = (uint32_t)number();
         text_len = hex(text);
         a = oq3_tokenize(text, text_len, selector, list, OQ3_WORDS * text_len);
-        say_records(a);
+        say_records(a, OQ3_WORDS);
         check(tiles(a), line, __LINE__);
         if (a.number == OQ3_DONE)
             again(selector, (size_t)a.also);
     } else if (task("unescape")) {
         selector = (uint32_t)number();
         text_len = hex(text);
-        say_records(oq3_unescape_literal(text, text_len, selector, list, OQ3_WORDS * (text_len + 1)));
+        say_records(oq3_unescape_literal(text, text_len, selector, list, OQ3_ITEM_WORDS * (text_len + 1)), OQ3_ITEM_WORDS);
     } else if (task("body")) {
         body();
     } else if (task("tokroom") || task("itemroom")) {

@@ -1,4 +1,4 @@
-// The tasks on tokens and items: lists of words, so many for each, and rows of records.
+// The tasks on tokens and items: lists of words, `RECORD` for a token and `ITEM` for an item, and rows of records.
 ghost use Prim.Native.Nat.{_≤_, _*_, _+_};
 ghost use lib.ListN.{length};
 ghost use Rattle.cutters.specs.Records.{recordWords};
@@ -22,7 +22,7 @@ use text::Answer;
 // How many words an item has.
 const ITEM: usize = 3;
 
-// The most words of a list: a record for each byte of the longest text. An item has no more words than that.
+// The most words of a list: a token's for each byte of the longest text. An item has no more words than a token.
 const LIST: usize = RECORD * words::TEXT;
 
 type List = [u32; LIST];

@@ -14,12 +14,11 @@ use Rattle.unicode.specs.Utf8.{first, next, chars}
 use Rattle.unicode.specs.Text.{byteLength, left}
 use Rattle.unicode.proofs.Text.{point-at, left-end, between, bytes-chars, chars-behind, ends-bytes}
 use Rattle.unicode.proofs.Valid.{width-some}
-use Rattle.text.specs.Answer.{knownProfile}
 use Rattle.cutters.specs.Records.{Token}
 use Rattle.lexer.specs.Kinds.{eof}
 use Rattle.lexer.specs.Cut.{Letters, advance, advanceToken, nextToken, tokens}
 use Rattle.lexer.specs.Steps.{Cuts}
-use Rattle.lexer.specs.Promises.{tokensBy, tokens3, tokensOf, front, Advanced}
+use Rattle.lexer.specs.Promises.{tokensBy, tokens3, profile3, tokensOf, front, Advanced}
 use Rattle.lexer.proofs.Shapes.{ends-advance, tokens-nil, tokens-cons}
 
 module _ (u : Letters) (profile : ℕ) where
@@ -75,7 +74,8 @@ advanced {u} {profile} h c =
     let v = tokens-at u profile h c in
     record { kind-is = rw v; suffix-is = rw v (omega (arith, c .suffix-place .after)); end-is = rw v (omega (arith, c .end-place .after)) }
 
-none-left : (u : Letters) (profile : ℕ) (s : List ℕ) (at : ℕ) → length s ≤ at → tokensBy u profile (drop at s) ≡ []
+-- at the end there is none
+pub none-left : (u : Letters) (profile : ℕ) (s : List ℕ) (at : ℕ) → length s ≤ at → tokensBy u profile (drop at s) ≡ []
 none-left u profile s at l = ap (tokens u profile) (left-end s at l) ∙ tokens-nil u profile
 
 pub none-at-end : {u : Letters} {profile : ℕ} {s : List ℕ} {at kind suffixAt end : ℕ} → length s ≤ at → kind ≡ eof → suffixAt ≡ at → end ≡ at → Advanced u profile s at kind suffixAt end
@@ -147,6 +147,6 @@ module _ (u : Letters) (profile : ℕ) (s : List ℕ) (at kind suffixAt end : �
       elim (decLt at (length s)) [ yes h ↦ omega (arith, suffix-here h, within h .1) | no n ↦ omega (arith, suffix-there (omega arith)) ]
 
 -- ---- under the profiles of OpenQASM 3 the tokens are its own
-pub known3 : (profile : ℕ) (s : List ℕ) → knownProfile profile ≡ true → tokensOf profile s ≡ tokens3 profile s
+pub known3 : (profile : ℕ) (s : List ℕ) → profile3 profile ≡ true → tokensOf profile s ≡ tokens3 profile s
 unfolding tokensOf
 known3 profile s h = refl

@@ -2,8 +2,9 @@
 -- Assumes nothing.
 use Prim.Native.Nat.{ℕ, _+_}
 use mathlib.Core.Path.{_≡_}
-use mathlib.Core.Bool.{cond}
+use mathlib.Core.Bool.{Bool, cond}
 use mathlib.Core.List.{List, [], _∷_}
+use lib.Dec.{ltb}
 use lib.ListN.{drop}
 use Rattle.unicode.specs.Utf8.{chars}
 use Rattle.text.specs.Answer.{done, checkText, _andThen_}
@@ -18,9 +19,13 @@ abbrev pub tokensBy : Letters → ℕ → List ℕ → List Token
 tokensBy u profile s = tokens u profile (chars s)
 
 unfoldable pub tokens3 : ℕ → List ℕ → List Token
-tokens3 profile s = tokensBy unicode profile s
+tokens3 profile s = tokens unicode profile (chars s)
 
--- and by its profile
+-- the profiles of OpenQASM 3
+abbrev pub profile3 : ℕ → Bool
+profile3 p = ltb p 2
+
+-- the tokens of a text, by its profile
 unfoldable pub tokensOf : ℕ → List ℕ → List Token
 tokensOf profile s = tokens3 profile s
 

@@ -12,20 +12,19 @@ use borrow.Author.Tests.{lt-ltb, le-ltb}
 use Rattle.lists.proofs.Bools.{by-test}
 use Rattle.lists.proofs.Put.{sets-append}
 use Rattle.lists.proofs.Store.{stored-front}
-use Rattle.unicode.proofs.Text.{point-at, left-end}
+use Rattle.unicode.proofs.Text.{point-at}
 use Rattle.text.specs.Answer.{Answered, done, longest, checkCut}
 use Rattle.text.specs.Steps.{Entered}
 use Rattle.text.proofs.Room as room
 use Rattle.text.proofs.Checks.{cut-passed}
 use Rattle.cutters.specs.Records.{Token, total, recordWords, wordsOf, flatFrom}
 use Rattle.cutters.proofs.Records.{length-words, length-flat}
-use Rattle.lexer.specs.Cut.{Letters, tokens}
+use Rattle.lexer.specs.Cut.{Letters}
 use Rattle.lexer.specs.Unicode.{unicode, lent}
 use Rattle.listing.specs.Steps.{Filled, StoredTokens, runFrom}
 use Rattle.lexer.specs.Promises.{tokens3, tokensOf, front, tokensBy, Advanced}
 use Rattle.listing.specs.Promises.{answerOf, listed, Listed, run, CutRun, TokenAt}
-use Rattle.lexer.proofs.Shapes.{tokens-nil}
-use Rattle.lexer.proofs.Places.{few-tokens, tokens-some, tokens-first, next-within, advanced-view, end-some, known3}
+use Rattle.lexer.proofs.Places.{few-tokens, tokens-some, tokens-first, next-within, none-left, advanced-view, end-some, known3}
 use Rattle.lexer.proofs.Unicode.{lent-is}
 use Rattle.unicode.specs.Ranges.{flat}
 use Rattle.ucd.specs.Ucd.{xidStart, xidContinue, emoji}
@@ -94,7 +93,7 @@ module _ {u : Letters} {profile : ℕ} {s list₀ list : List ℕ} {from room at
 
   pub fill-end : {count : ℕ} → length s ≤ at → count ≡ n → Filled u profile s from list₀ at count list
   fill-end h e =
-      let z : tokensBy u profile (drop at s) ≡ [] = ap (tokens u profile) (left-end s at h) ∙ tokens-nil u profile in
+      let z = none-left u profile s at h in
       fill-done (rw z (take-nil (room - n))) (rw z (drop-of-length-le [] {i = room - n} (omega arith))) e
 
 -- ---- the same for every length of text
@@ -128,7 +127,7 @@ counting-none u profile s = record { sum = omega arith }
 module _ {u : Letters} {profile : ℕ} {s : List ℕ} {at n : ℕ} (w : Counting u profile s at n) where
   pub count-end : length s ≤ at → n ≡ length (tokensBy u profile s)
   count-end h =
-      let z : tokensBy u profile (drop at s) ≡ [] = ap (tokens u profile) (left-end s at h) ∙ tokens-nil u profile in
+      let z = none-left u profile s at h in
       omega (arith, w .sum, ap length z)
 
   module _ {list list′ : List ℕ} {at′ k : ℕ} (f : Filled u profile s at list at′ k list′) where
@@ -206,7 +205,7 @@ module _ (u : Letters) (profile : ℕ) (s : List ℕ) (at : ℕ) where
             let e = point-at s at h .view in
             let b = next-within u profile _ _ (drop at s) e in
             rw (t, tokens-first u profile _ _ (drop at s) e) (omega (arith, b .1, length-drop at s), omega (arith, b .0, length-drop at s))
-        | no n ↦ rw (t, left-end s at (omega arith), tokens-nil u profile) (omega arith, omega arith)
+        | no n ↦ rw (t, none-left u profile s at (omega arith)) (omega arith, omega arith)
       ])
 
 module _ {u : Letters} {profile : ℕ} {s list′ : List ℕ} {at end count : ℕ} (r : CutRun u profile s at none end count list′) where

@@ -170,7 +170,7 @@ fn lend(text: &[u8], profile: u32, list: &mut [u32]) -> Answer
     )
 }
 
-// The tokens of a text, three words for each: kind, length in bytes, suffix start.
+// The tokens of a text, `RECORD` words for each: kind, length in bytes, suffix start.
 pub fn tokenize(text: &[u8], profile: u32, list: &mut [u32]) -> Answer
     ensures { λ r. ⌜ Listed (now (text .entry)) profile (now (list .entry)) (r .number) (r .also) (now (list .exit)) ⌝ }
 {

@@ -12,7 +12,7 @@ use Rattle.ucd.specs.Ucd.{xidStart, xidContinue, emoji}
 use Rattle.unicode.specs.Utf8.{table, behind, begins, joined, readBy, first, next, chars, width}
 use Rattle.unicode.specs.Text.{byteLength, skip}
 use Rattle.letters.specs.Chars.{whitespace}
-use Rattle.cutters.specs.Records.{flatFrom}
+use Rattle.cutters.specs.Records.{Token}
 use Rattle.lexer.specs.Kinds.{marks, markIn}
 use Rattle.lexer.specs.Cut.{notLf, isDigit, isHexDigit, block, slash, digits, exponent, exponentOf, point, fraction, based, number, isUnit, quoted, withoutLf, twice, quoteKind, agree, pound, name, word, annotated, hardware, identifier, numberSuffix, advance, nextToken, tokens}
 use Rattle.lexer.specs.Unicode.{unicode}
@@ -25,18 +25,21 @@ use Rattle.locality.specs.Newline.{Run, withNewline}
 use Rattle.locality.specs.Changes.{inserted}
 
 -- ---- the machine, on bytes
-abbrev cuts : ℕ → List ℕ → List ℕ
-cuts profile s = flatFrom s 0 (cutBy (act unicode) (Phases.first unicode profile) (chars s))
+abbrev cuts : ℕ → List ℕ → List Token
+cuts profile s = cutBy (act unicode) (Phases.first unicode profile) (chars s)
+
+abbrev token : ℕ → ℕ → ℕ → Token
+token k n s = record { kind = k; len = n; suffix = s }
 
 -- `pragma x`, LF, `1.5ns` under both profiles; `/*/**/`; `"0`, LF, `"`; `#prag`; `1.e5`
 machine-samples :
-    (cuts 1 (0x70 ∷ 0x72 ∷ 0x61 ∷ 0x67 ∷ 0x6D ∷ 0x61 ∷ 0x20 ∷ 0x78 ∷ 0x0A ∷ 0x31 ∷ 0x2E ∷ 0x35 ∷ 0x6E ∷ 0x73 ∷ []) ≡ 8 ∷ 8 ∷ 0 ∷ 4 ∷ 1 ∷ 0 ∷ 52 ∷ 3 ∷ 3 ∷ 5 ∷ 2 ∷ 0 ∷ [])
-    × (cuts 0 (0x70 ∷ 0x72 ∷ 0x61 ∷ 0x67 ∷ 0x6D ∷ 0x61 ∷ 0x20 ∷ 0x78 ∷ []) ≡ 5 ∷ 6 ∷ 0 ∷ 4 ∷ 1 ∷ 0 ∷ 5 ∷ 1 ∷ 0 ∷ [])
-    × (cuts 0 (0x2F ∷ 0x2A ∷ 0x2F ∷ 0x2A ∷ 0x2A ∷ 0x2F ∷ []) ≡ 3 ∷ 6 ∷ 0 ∷ [])
-    × (cuts 0 (0x22 ∷ 0x30 ∷ 0x0A ∷ 0x22 ∷ []) ≡ 57 ∷ 4 ∷ 4 ∷ [])
-    × (cuts 0 (0x23 ∷ 0x70 ∷ 0x72 ∷ 0x61 ∷ 0x67 ∷ []) ≡ 7 ∷ 5 ∷ 0 ∷ [])
-    × (cuts 0 (0x31 ∷ 0x2E ∷ 0x65 ∷ 0x35 ∷ []) ≡ 52 ∷ 4 ∷ 2 ∷ [])
-unfolding all pieces cut eat inTable xidStart xidContinue emoji table behind begins joined readBy first next chars width whitespace marks markIn isUnit notLf isDigit isHexDigit unicode flatFrom run cutBy act Phases.first
+    (cuts 1 (0x70 ∷ 0x72 ∷ 0x61 ∷ 0x67 ∷ 0x6D ∷ 0x61 ∷ 0x20 ∷ 0x78 ∷ 0x0A ∷ 0x31 ∷ 0x2E ∷ 0x35 ∷ 0x6E ∷ 0x73 ∷ []) ≡ token 8 8 0 ∷ token 4 1 0 ∷ token 52 3 3 ∷ token 5 2 0 ∷ [])
+    × (cuts 0 (0x70 ∷ 0x72 ∷ 0x61 ∷ 0x67 ∷ 0x6D ∷ 0x61 ∷ 0x20 ∷ 0x78 ∷ []) ≡ token 5 6 0 ∷ token 4 1 0 ∷ token 5 1 0 ∷ [])
+    × (cuts 0 (0x2F ∷ 0x2A ∷ 0x2F ∷ 0x2A ∷ 0x2A ∷ 0x2F ∷ []) ≡ token 3 6 0 ∷ [])
+    × (cuts 0 (0x22 ∷ 0x30 ∷ 0x0A ∷ 0x22 ∷ []) ≡ token 57 4 4 ∷ [])
+    × (cuts 0 (0x23 ∷ 0x70 ∷ 0x72 ∷ 0x61 ∷ 0x67 ∷ []) ≡ token 7 5 0 ∷ [])
+    × (cuts 0 (0x31 ∷ 0x2E ∷ 0x65 ∷ 0x35 ∷ []) ≡ token 52 4 2 ∷ [])
+unfolding all pieces cut eat inTable xidStart xidContinue emoji table behind begins joined readBy first next chars width whitespace marks markIn isUnit notLf isDigit isHexDigit unicode run cutBy act Phases.first
 machine-samples = (refl, refl, refl, refl, refl, refl)
 
 -- ---- the counted tokens, on bytes

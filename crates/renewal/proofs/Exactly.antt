@@ -1,6 +1,6 @@
 -- Keys are equal exactly when the lists of counted tokens are; and how long a key can be. Over any cutter, and for the profiles'.
 -- Assumes nothing.
-use Prim.Native.Nat.{ℕ, _-_, _*_, _≤_}
+use Prim.Native.Nat.{ℕ, _*_, _≤_}
 use native.Mathlib.Omega.{arith}
 use mathlib.Core.Path.{_≡_, refl, ap}
 use mathlib.Core.Bool.{Bool, true, false}
@@ -18,7 +18,7 @@ use Rattle.renewal.proofs.Prefix.{keys-once, ruled-told}
 use Rattle.renewal.proofs.Runs.{none-of, first-of, key-few-by}
 use Rattle.renewal.proofs.Keyable.{profile-keyable}
 
-module _ {cutter : List ℕ → List Token} (cuts : Keyable cutter) where
+module _ {cutter : List ℕ → List Token} (k : Keyable cutter) where
   -- ---- every member of a text obeys the rules
   ruled-cons : (s : List ℕ) (t : Token) (ts : List Token) → (isCounted (t .kind) ≡ true → Ruled (memberOf s t)) → Each Ruled (counted (drop (t .len) s) ts) → Each Ruled (counted s (t ∷ ts))
   unfolding counted
@@ -31,9 +31,9 @@ module _ {cutter : List ℕ → List Token} (cuts : Keyable cutter) where
   pub members-ruled : (s : List ℕ) → length s ≤ longest → Each Ruled (membersBy cutter s)
   unfolding membersBy counted
   members-ruled =
-      by-length (λ (s : List ℕ). length s ≤ longest → Each Ruled (membersBy cutter s)) (λ h. rw (none-of cuts) tt)
+      by-length (λ (s : List ℕ). length s ≤ longest → Each Ruled (membersBy cutter s)) (λ h. rw (none-of k) tt)
       (λ a s ih h.
-      let f = first-of cuts a s in
+      let f = first-of k a s in
       let l = length-drop (f .token .len) (a ∷ s) in
       rw (f .view) (ruled-cons (a ∷ s) (f .token) (cutter (drop (f .token .len) (a ∷ s))) (f .ruled h) (ih (drop (f .token .len) (a ∷ s)) (omega (arith, f .some)) (omega arith))))
 

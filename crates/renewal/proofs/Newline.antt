@@ -10,11 +10,11 @@ use lib.ListN.{length, take}
 use borrow.Author.Tests.{le-ltb, eq-eqb}
 use Rattle.lists.proofs.Bools.{on-cond}
 use Rattle.unicode.specs.Utf8.{WellFormed}
-use Rattle.text.specs.Answer.{done, longest, knownProfile, checkCut}
+use Rattle.text.specs.Answer.{done, longest, checkCut}
 use Rattle.text.proofs.Checks.{cut-accepted, cut-passes}
 use Rattle.locality.specs.Newline.{Run, withNewline}
 use Rattle.locality.proofs.Clause.{newline-shorter, newline-clause}
-use Rattle.lexer.specs.Promises.{tokens3, tokensOf}
+use Rattle.lexer.specs.Promises.{tokens3, profile3, tokensOf}
 use Rattle.lexer.proofs.Places.{known3}
 use Rattle.tokens.specs.Members.{membersOf}
 use Rattle.tokens.proofs.OpenQasm.{members-known}
@@ -34,7 +34,7 @@ same-accepted profile s s′ h f l e =
     (ap (λ (r : ℕ × ℕ). r .0) (cut-passes s′ profile (record { known = cut-accepted s profile h .known; text = record { short = l; good = f } })), same-key profile s′ s e)
 
 -- ---- under the profiles of OpenQASM 3 a run is its own
-run-known : (profile : ℕ) {s : List ℕ} {from to : ℕ} → knownProfile profile ≡ true → Run (tokensOf profile) s from to → Run (tokens3 profile) s from to
+run-known : (profile : ℕ) {s : List ℕ} {from to : ℕ} → profile3 profile ≡ true → Run (tokensOf profile) s from to → Run (tokens3 profile) s from to
 run-known profile {s} k r =
     record {
       before = r .before;

@@ -10,7 +10,7 @@ use lib.ListN.{length, take, drop}
 use lib.Seq.{take-append-seam}
 use borrow.Author.Tests.{eq-eqb, eqb-true}
 use Rattle.lists.proofs.Bools.{by-test, on-cond}
-use Rattle.text.specs.Answer.{Answered, done, roomTooSmall, knownProfile, checkCut}
+use Rattle.text.specs.Answer.{Answered, done, roomTooSmall, checkCut}
 use Rattle.text.specs.Steps.{Entered}
 use Rattle.text.proofs.Checks.{cut-passed}
 use Rattle.text.proofs.Room as room
@@ -19,7 +19,7 @@ use Rattle.lexer.specs.Cut.{Letters}
 use Rattle.unicode.specs.Ranges.{flat}
 use Rattle.ucd.specs.Ucd.{xidStart, xidContinue, emoji}
 use Rattle.lexer.specs.Unicode.{lent}
-use Rattle.lexer.specs.Promises.{tokens3, tokensOf, tokensBy}
+use Rattle.lexer.specs.Promises.{tokens3, profile3, tokensOf, tokensBy}
 use Rattle.lexer.proofs.Unicode.{lent-is}
 use Rattle.tokens.specs.Members.{members3, membersOf}
 use Rattle.tokens.proofs.OpenQasm.{members-known}
@@ -71,8 +71,8 @@ keyed-by e = record { answer = e .answer; key-is = e .memory }
 pub keyed-refused : {s key key′ : List ℕ} {profile number also : ℕ} → Answered (checkCut s profile) number also → (number ≡ done → ⊥) → key′ ≡ key → Keyed s profile key number also key′
 keyed-refused a n e = keyed-by (room.refused a n e)
 
--- under a known profile the key is that of OpenQASM 3
-key-known : (profile : ℕ) (s : List ℕ) → knownProfile profile ≡ true → keyBy (tokens3 profile) s ≡ keyBy (tokensOf profile) s
+-- under its profiles the key is that of OpenQASM 3's tokens
+key-known : (profile : ℕ) (s : List ℕ) → profile3 profile ≡ true → keyBy (tokens3 profile) s ≡ keyBy (tokensOf profile) s
 unfolding keyBy members3 membersOf
 key-known profile s h = ap keyOf (sym (members-known profile s h))
 

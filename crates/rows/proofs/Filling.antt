@@ -12,12 +12,11 @@ use borrow.Author.Tests.{ltb-true, ltb-false}
 use Rattle.lists.proofs.Bools.{by-test}
 use Rattle.unicode.specs.Utf8.{chars}
 use Rattle.unicode.specs.Text.{left}
-use Rattle.unicode.proofs.Text.{point-at, left-end, bytes-chars}
+use Rattle.unicode.proofs.Text.{point-at, bytes-chars}
 use Rattle.cutters.specs.Records as definitions
 use Rattle.cutters.specs.Records.{total}
-use Rattle.lexer.specs.Cut.{Letters, nextToken, tokens}
-use Rattle.lexer.proofs.Shapes.{tokens-nil}
-use Rattle.lexer.proofs.Places.{tokens-first}
+use Rattle.lexer.specs.Cut.{Letters, nextToken}
+use Rattle.lexer.proofs.Places.{tokens-first, none-left}
 use Rattle.tokens.proofs.Tiling.{tiles-chars}
 use Rattle.rows.specs.Rows.{records}
 use Rattle.lexer.specs.Promises.{front, tokensBy}
@@ -45,7 +44,7 @@ module _ (u : Letters) (profile : ℕ) (s : List ℕ) where
   stepped at h =
       let c = point-at s at h in
       let p = nextToken u profile _ _ .0 in
-      let e : from at ≡ p ∷ tokens u profile (chars (drop (p .len) (drop at s))) = tokens-first u profile _ _ (drop at s) (c .view) in
+      let e : from at ≡ p ∷ tokensBy u profile (drop (p .len) (drop at s)) = tokens-first u profile _ _ (drop at s) (c .view) in
       let f : from at ≡ p ∷ from (at + p .len) = e ∙ rw drop-drop in
       record {
         token = p;
@@ -59,10 +58,6 @@ module _ (u : Letters) (profile : ℕ) (s : List ℕ) where
     pub within : placeAfter u profile s i ≤ length s
     pub count : i + length (from (placeAfter u profile s i)) ≡ length (tokensBy u profile s)
     pub same : sets (rowAfter u profile s row i) i (records (from (placeAfter u profile s i))) ≡ sets row 0 (records (tokensBy u profile s))
-
-  -- at the end no token is left
-  pub none-left : (at : ℕ) → length s ≤ at → from at ≡ []
-  none-left at h = ap (tokens u profile) (left-end s at h) ∙ tokens-nil u profile
 
   filling-on : (row : List Token) (i : ℕ) → Filling row i → placeAfter u profile s i < length s → Filling row (suc i)
   unfolding records
@@ -82,7 +77,7 @@ module _ (u : Letters) (profile : ℕ) (s : List ℕ) where
       let f = filling row i (omega (arith, h)) in
       by-test (ltb (placeAfter u profile s i) (length s))
       (λ t. filling-on row i f (ltb-true _ _ t))
-      (λ t. absurd (omega (arith, h, f .count, ap length (none-left (placeAfter u profile s i) (ltb-false _ _ t)))))
+      (λ t. absurd (omega (arith, h, f .count, ap length (none-left u profile s (placeAfter u profile s i) (ltb-false _ _ t)))))
 
   -- ---- as the walk by hand asks them
   module _ (row : List Token) where
@@ -101,7 +96,7 @@ module _ (u : Letters) (profile : ℕ) (s : List ℕ) where
     unfolding records
     all-stored i h l r =
         let f = filling row i h in
-        let z = none-left (placeAfter u profile s i) l in
+        let z = none-left u profile s (placeAfter u profile s i) l in
         let n : i ≡ length (tokensBy u profile s) = omega (arith, f .count, ap length z) in
         let k = length-records (tokensBy u profile s) in
         let e : sets (rowAfter u profile s row i) i (records (from (placeAfter u profile s i))) ≡ rowAfter u profile s row i = rw z in

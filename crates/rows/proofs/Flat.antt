@@ -32,16 +32,16 @@ unfolding words
 words-append [] l = refl
 words-append (t ∷ k) l = ap (λ (r : List ℕ). t .kind ∷ t .len ∷ t .suffix ∷ r) (words-append k l)
 
-thrice : (i : ℕ) → recordWords * suc i ≡ suc (suc (suc (recordWords * i)))
-thrice i = omega arith
+one-more : (i : ℕ) → recordWords * suc i ≡ suc (suc (suc (recordWords * i)))
+one-more i = omega arith
 
 pub words-drop : (i : ℕ) (row : List Token) → words (drop i row) ≡ drop (recordWords * i) (words row)
 unfolding words
 words-drop zero row = refl
 words-drop (suc i) [] = sym (drop-nil (recordWords * suc i))
-words-drop (suc i) (t ∷ row) = rw (thrice i) (words-drop i row)
+words-drop (suc i) (t ∷ row) = rw (one-more i) (words-drop i row)
 
--- record i is the words 3i to 3i + 2
+-- record i is `recordWords` words, from its own place on
 pub record-words : (i : ℕ) (row : List Token) (d : Token) → i < length row →
     drop (recordWords * i) (words row) ≡ getD row i d .kind ∷ getD row i d .len ∷ getD row i d .suffix ∷ drop (recordWords * suc i) (words row)
 unfolding words

@@ -9,14 +9,14 @@ use lib.Dec.{ltb, eqb}
 use lib.ListN.{length, take, drop}
 use borrow.Author.Tests.{ltb-false, lt-ltb, le-ltb, eqb-true, eqb-false, eq-eqb, ne-eqb}
 use Rattle.lists.proofs.Bools.{by-test}
-use Rattle.unicode.specs.Utf8.{chars, validUpTo}
+use Rattle.unicode.specs.Utf8.{validUpTo}
 use Rattle.unicode.specs.Ranges.{flat}
 use Rattle.ucd.specs.Ucd.{xidStart, xidContinue, emoji}
-use Rattle.text.specs.Answer.{Answered, done, roomTooSmall, longest, checkText, checkCut}
+use Rattle.text.specs.Answer.{Answered, done, roomTooSmall, longest, knownProfile, checkText, checkCut}
 use Rattle.text.proofs.Checks.{cut-accepted}
 use Rattle.cutters.specs.Records as definitions
 use Rattle.cutters.specs.Records.{recordWords}
-use Rattle.lexer.specs.Cut.{Letters, tokens}
+use Rattle.lexer.specs.Cut.{Letters}
 use Rattle.lexer.specs.Unicode.{unicode, lent}
 use Rattle.lexer.specs.Promises.{tokens3, tokensOf, front, tokensBy}
 use Rattle.listing.specs.Promises.{answerOf, Listed, run, TokenAt}
@@ -51,12 +51,12 @@ token-at {u} {profile} {s} {at} {kind} {suffixAt} {end} short a =
 below-four : (s : List ℕ) (p : ℕ) → checkCut s p .0 < 4
 unfolding checkCut checkText
 below-four s p =
-    by-test (ltb p 2)
+    by-test (knownProfile p)
     (λ a. by-test (ltb longest (length s)) (λ b. rw (a, b) (omega arith)) (λ b. by-test (ltb (validUpTo s) (length s)) (λ d. rw (a, b, d) (omega arith)) (λ d. rw (a, b, d) (omega arith))))
     (λ a. rw a (omega arith))
 
-thirds : (room : ℕ) → recordWords * room / recordWords ≡ room
-thirds room = omega arith
+whole-records : (room : ℕ) → recordWords * room / recordWords ≡ room
+whole-records room = omega arith
 
 -- how many records are needed
 abbrev need : List ℕ → ℕ → ℕ
@@ -87,7 +87,7 @@ module _ {s : List ℕ} {profile room number also : ℕ} where
       (λ t.
       let z : number ≡ done = a .number-is ∙ eqb-true _ _ t in
       record {
-        number-is = rw (t, thirds room, le-ltb room (need s profile) (omega (arith, few-tokens unicode profile s, ap length (own s profile (eqb-true _ _ t))))) z;
+        number-is = rw (t, whole-records room, le-ltb room (need s profile) (omega (arith, few-tokens unicode profile s, ap length (own s profile (eqb-true _ _ t))))) z;
         also-is = λ n. absurd (n z);
       })
       (λ t. record { number-is = rw t (a .number-is); also-is = λ n. rw t (a .also-is) })
@@ -102,7 +102,7 @@ module _ {s : List ℕ} {profile room number also : ℕ} where
       (λ b.
       let z : number ≡ done = rw (t, b) at (l .answer .number-is) in
       record {
-        number-is = rw (t, thirds room, le-ltb room (need s profile) (omega (arith, ltb-false 0 (need s profile) b))) z;
+        number-is = rw (t, whole-records room, le-ltb room (need s profile) (omega (arith, ltb-false 0 (need s profile) b))) z;
         also-is = λ m. absurd (m z);
       }))
       (λ t. record { number-is = rw t (rw t at (l .answer .number-is)); also-is = λ m. rw t (rw t at (l .answer .also-is)) })
@@ -113,7 +113,7 @@ module _ {s : List ℕ} {profile room number also : ℕ} where
       let k = told-need l n in
       let t = eq-eqb _ _ (k .0) in
       let b : ltb room (need s profile) ≡ true = lt-ltb room (need s profile) (omega (arith, k .1, h)) in
-      record { number-is = rw (t, thirds room, b) n; also-is = λ m. rw (t, thirds room, b) (k .1) }
+      record { number-is = rw (t, whole-records room, b) n; also-is = λ m. rw (t, whole-records room, b) (k .1) }
 
   pub judged-done : {list′ : List ℕ} {n : ℕ} → Listed s profile (0 ∷ []) n also list′ → n ≡ roomTooSmall → also ≤ room → number ≡ done → Judged s profile room number also
   unfolding answerOf
@@ -121,7 +121,7 @@ module _ {s : List ℕ} {profile room number also : ℕ} where
       let k = told-need l n in
       let t = eq-eqb _ _ (k .0) in
       let b : ltb room (need s profile) ≡ false = le-ltb room (need s profile) (omega (arith, k .1, h)) in
-      record { number-is = rw (t, thirds room, b) z; also-is = λ m. absurd (m z) }
+      record { number-is = rw (t, whole-records room, b) z; also-is = λ m. absurd (m z) }
 
 -- ---- the whole call
 -- what is refused leaves the row as it was
@@ -143,7 +143,7 @@ module _ {s : List ℕ} {profile number also : ℕ} (row : List Token) (j : Judg
         eqb-true _ _ t,
         by-test (ltb (recordWords * length row / recordWords) (need s profile))
             (λ b. let e : number ≡ roomTooSmall = rw (t, b) at (j .number-is) in absurd (omega (arith, e, z)))
-            (λ b. omega (arith, ltb-false (recordWords * length row / recordWords) (need s profile) b, thirds (length row))),
+            (λ b. omega (arith, ltb-false (recordWords * length row / recordWords) (need s profile) b, whole-records (length row))),
       ))
       (λ t. let e : number ≡ checkCut s profile .0 = rw t at (j .number-is) in absurd (eqb-false _ _ t (sym e ∙ z)))
 
@@ -152,7 +152,7 @@ module _ {s : List ℕ} {profile number also : ℕ} (row : List Token) (j : Judg
 
   answer-is : answerOf s profile (recordWords * length row) ≡ (done, need s profile)
   unfolding answerOf
-  answer-is = rw (eq-eqb _ _ (passes .0), thirds (length row), le-ltb (length row) (need s profile) (passes .1))
+  answer-is = rw (eq-eqb _ _ (passes .0), whole-records (length row), le-ltb (length row) (need s profile) (passes .1))
 
   pub rowed-done : {n number′ also′ : ℕ} {row′ : List Token} → Filled unicode profile s row n row′ → Answered (done, n) number′ also′ → Rowed s profile row number′ also′ row′
   unfolding rowed
@@ -169,7 +169,7 @@ module _ {starts mores emojis : List ℕ} (a : starts ≡ flat xidStart) (b : mo
   letters-are : lent starts mores emojis ≡ unicode
   letters-are = rw (a, b, c) lent-is
 
-  pub roomy-letters : (profile m : ℕ) (s : List ℕ) → length (tokensBy unicode profile s) ≤ m → length (tokens (lent starts mores emojis) profile (chars s)) ≤ m
+  pub roomy-letters : (profile m : ℕ) (s : List ℕ) → length (tokensBy unicode profile s) ≤ m → length (tokensBy (lent starts mores emojis) profile s) ≤ m
   roomy-letters profile m s h = subst (λ (u : Letters). length (tokensBy u profile s) ≤ m) (sym letters-are) h
 
   pub filled-letters : {profile n : ℕ} {s : List ℕ} {row row′ : List Token} → Filled (lent starts mores emojis) profile s row n row′ → Filled unicode profile s row n row′

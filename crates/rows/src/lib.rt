@@ -15,7 +15,7 @@ use text::Answer;
 use text::check_cut;
 use ucd::tables;
 
-// A token as `tokenize` lists it in three words: kind, length in bytes, suffix start.
+// A token as `tokenize` lists it in words: kind, length in bytes, suffix start.
 #[repr(C)]
 pub struct Token {
     pub kind: u32,

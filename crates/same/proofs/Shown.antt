@@ -42,10 +42,14 @@ shows-from s at (t ∷ ts) f =
     go true r = (refl, refl, f .0, refl, r)
     go false r = r
 
--- ---- EACH IS SHOWN, one by one, and nothing else is
+-- ---- EACH IS SHOWN, one by one, and nothing else is: of any cutter, and of the profiles'
+pub all-shown-by : {cutter : List ℕ → List Token} → Keyable cutter → (s : List ℕ) → shows s (sights 0 (cutter s)) (membersBy cutter s)
+unfolding membersBy
+all-shown-by {cutter} k s = shows-from s 0 (cutter s) (each-some k s)
+
 pub all-shown : (profile : ℕ) (s : List ℕ) → knownProfile profile ≡ true → shows s (sights 0 (tokensOf profile s)) (membersOf profile s)
-unfolding membersOf membersBy
-all-shown profile s h = shows-from s 0 (tokensOf profile s) (each-some (profile-keyable profile h) s)
+unfolding membersOf
+all-shown profile s h = all-shown-by (profile-keyable profile h) s
 
 -- ---- the end
 some-at : (s : List ℕ) (vs : List Sight) (ms : List Member) (n : ℕ) (d : Sight) → shows s vs ms → n < length ms → 1 ≤ getD vs n d .len
@@ -65,8 +69,13 @@ none-at s (v ∷ vs) (m ∷ ms) zero d x h = absurd (omega arith)
 none-at s (v ∷ vs) (m ∷ ms) (suc n) d x h = none-at s vs ms n d (x .4) (omega arith)
 
 -- the length that is shown is 0 only at the end
+pub end-shown-by : {cutter : List ℕ → List Token} → Keyable cutter → (s : List ℕ) (n : ℕ) →
+    (n < length (membersBy cutter s) → 1 ≤ getD (sights 0 (cutter s)) n (endOf s) .len) × (length (membersBy cutter s) ≤ n → getD (sights 0 (cutter s)) n (endOf s) ≡ endOf s)
+end-shown-by {cutter} k s n =
+    let x = all-shown-by k s in
+    (some-at s (sights 0 (cutter s)) (membersBy cutter s) n (endOf s) x, none-at s (sights 0 (cutter s)) (membersBy cutter s) n (endOf s) x)
+
 pub end-shown : (profile : ℕ) (s : List ℕ) (n : ℕ) → knownProfile profile ≡ true →
     (n < length (membersOf profile s) → 1 ≤ getD (sights 0 (tokensOf profile s)) n (endOf s) .len) × (length (membersOf profile s) ≤ n → getD (sights 0 (tokensOf profile s)) n (endOf s) ≡ endOf s)
-end-shown profile s n h =
-    let x = all-shown profile s h in
-    (some-at s (sights 0 (tokensOf profile s)) (membersOf profile s) n (endOf s) x, none-at s (sights 0 (tokensOf profile s)) (membersOf profile s) n (endOf s) x)
+unfolding membersOf
+end-shown profile s n h = end-shown-by (profile-keyable profile h) s n

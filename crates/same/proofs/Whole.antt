@@ -11,11 +11,11 @@ use borrow.Author.Tests.{eq-eqb, ne-eqb, eqb-true}
 use Rattle.lists.proofs.Bools.{by-test, both}
 use Rattle.unicode.specs.Ranges.{flat}
 use Rattle.ucd.specs.Ucd.{xidStart, xidContinue, emoji}
-use Rattle.text.specs.Answer.{Answered, done, knownProfile, checkCut}
+use Rattle.text.specs.Answer.{Answered, done, checkCut}
 use Rattle.text.proofs.Checks.{cut-passed}
 use Rattle.lexer.specs.Cut.{Letters}
 use Rattle.lexer.specs.Unicode.{lent}
-use Rattle.lexer.specs.Promises.{tokens3, tokensOf, tokensBy}
+use Rattle.lexer.specs.Promises.{tokens3, profile3, tokensOf, tokensBy}
 use Rattle.lexer.proofs.Unicode.{lent-is}
 use Rattle.lexer.proofs.Places.{known3}
 use Rattle.tokens.specs.Members.{Member, membersBy, membersOf}
@@ -32,8 +32,8 @@ unfolding tokens3
 lent-parted profile s s′ {verdict} {number} {also} {agreed} {k} {o} {l} {k′} {o′} {l′} c =
     subst (λ (u : Letters). Compared (partedBy (tokensBy u profile) s s′) verdict number also agreed k o l k′ o′ l′) lent-is c
 
--- under a known profile the comparison is that of OpenQASM 3
-parted-known : (profile : ℕ) (s s′ : List ℕ) → knownProfile profile ≡ true → partedBy (tokensOf profile) s s′ ≡ partedBy (tokens3 profile) s s′
+-- under its profiles the comparison is that of OpenQASM 3's tokens
+parted-known : (profile : ℕ) (s s′ : List ℕ) → profile3 profile ≡ true → partedBy (tokensOf profile) s s′ ≡ partedBy (tokens3 profile) s s′
 unfolding partedBy membersBy
 parted-known profile s s′ h = rw (known3 profile s h, known3 profile s′ h)
 

@@ -15,7 +15,7 @@ use Rattle.unicode.specs.Utf8.{table, behind, begins, joined, readBy, first, ne
 use Rattle.unicode.specs.Text.{byteLength, skip}
 use Rattle.text.specs.Answer.{checkText, checkCut}
 use Rattle.letters.specs.Chars.{whitespace}
-use Rattle.cutters.specs.Records.{flatFrom}
+use Rattle.cutters.specs.Records.{recordWords, flatFrom}
 use Rattle.lexer.specs.Kinds.{marks, markIn}
 use Rattle.lexer.specs.Cut.{notLf, isDigit, isHexDigit, block, slash, digits, exponent, exponentOf, point, fraction, based, number, isUnit, quoted, withoutLf, twice, quoteKind, agree, identifier, numberSuffix, advance, nextToken, tokens}
 use Rattle.lexer.specs.Unicode.{unicode}
@@ -75,7 +75,7 @@ rules-out-same-tokens p q =
 
 -- the first token right, and the rest Unknown
 pub rules-out-rest-unknown : {n a : ℕ} → Listed semicolons 0 room n a (10 ∷ 1 ∷ 0 ∷ 37 ∷ 1 ∷ 0 ∷ []) → ⊥
-rules-out-rest-unknown p = let e : _≡_ {A = ℕ} 37 10 = ap (λ (x : List ℕ). getD x 3 0) (p .words ∙ leaves .2 .1) in omega arith
+rules-out-rest-unknown p = let e : _≡_ {A = ℕ} 37 10 = ap (λ (x : List ℕ). getD x recordWords 0) (p .words ∙ leaves .2 .1) in omega arith
 
 -- a number of records that is not the list's
 pub rules-out-invented-number : {n : ℕ} {l : List ℕ} → Listed semicolon 0 room n 2 l → ⊥

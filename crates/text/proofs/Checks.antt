@@ -10,7 +10,7 @@ use borrow.Author.Tests.{lt-ltb, le-ltb, ltb-false}
 use Rattle.lists.proofs.Bools.{by-test}
 use Rattle.unicode.specs.Utf8.{validUpTo}
 use Rattle.unicode.proofs.Valid.{valid-within}
-use Rattle.text.specs.Answer.{Answered, done, tooLong, notUtf8, longest, checkText, checkCut, unknownSelector, Accepted, CutAccepted}
+use Rattle.text.specs.Answer.{Answered, done, tooLong, notUtf8, longest, knownProfile, checkText, checkCut, unknownSelector, Accepted, CutAccepted}
 
 -- one outcome: two answers of one call are equal
 pub answered-unique : {is : ℕ × ℕ} {n a m b : ℕ} → Answered is n a → Answered is m b → (n ≡ m) × (a ≡ b)
@@ -60,7 +60,7 @@ module _ (s : List ℕ) (p : ℕ) {number also : ℕ} where
 pub cut-accepted : (s : List ℕ) (p : ℕ) → checkCut s p .0 ≡ done → CutAccepted s p
 unfolding checkCut
 cut-accepted s p h =
-    by-test (ltb p 2)
+    by-test (knownProfile p)
     (λ e. record { known = e; text = accepted s (rw e at h) })
     (λ e. absurd (omega (arith, rw e at h)))
 

@@ -4,19 +4,18 @@ use Prim.Native.Nat.{ℕ, suc, _≤_}
 use native.Mathlib.Omega.{arith}
 use mathlib.Core.Path.{_≡_, ap, sym, _∙_}
 use mathlib.Core.Bool.{true}
-use mathlib.Core.List.{List, [], _∷_, _++_}
+use mathlib.Core.List.{List, _∷_, _++_}
 use lib.ListN.{length, drop, length-drop}
 use Rattle.lists.proofs.Cut.{by-length}
 use Rattle.unicode.specs.Utf8.{first, chars}
 use Rattle.unicode.specs.Text.{byteLength}
 use Rattle.unicode.proofs.Text.{chars-nil, chars-first, bytes-chars}
-use Rattle.text.specs.Answer.{knownProfile}
 use Rattle.cutters.specs.Records.{Token, total}
 use Rattle.cutters.specs.Cutter.{Cutter, cutBytes}
 use Rattle.cutters.proofs.Cutter.{cut-none, cut-first, same-ending}
 use Rattle.lexer.specs.Cut.{Letters, nextToken, tokens}
 use Rattle.lexer.specs.Unicode.{unicode}
-use Rattle.lexer.specs.Promises.{tokensBy, tokens3}
+use Rattle.lexer.specs.Promises.{tokensBy, tokens3, profile3}
 use Rattle.lexer.proofs.Shapes.{tokens-nil}
 use Rattle.lexer.proofs.Places.{tokens-first, next-some, known3}
 use Rattle.tokens.specs.Members.{counted, membersBy, members3, membersOf}
@@ -60,6 +59,6 @@ same-tokens profile p q p′ q′ s s′ h h′ =
     same-ending (openQasm unicode profile) p q p′ q′ s s′ (sym (tokens-cut unicode profile s) ∙ h) (sym (tokens-cut unicode profile s′) ∙ h′)
 
 -- under its profiles the counted tokens of a text are its own
-pub members-known : (profile : ℕ) (s : List ℕ) → knownProfile profile ≡ true → membersOf profile s ≡ members3 profile s
+pub members-known : (profile : ℕ) (s : List ℕ) → profile3 profile ≡ true → membersOf profile s ≡ members3 profile s
 unfolding membersOf members3 membersBy
 members-known profile s k = ap (counted s) (known3 profile s k)
