@@ -207,6 +207,15 @@ impl What {
         }
     }
 
+    /// How many words, or bytes, `also` counts as one.
+    fn width(&self) -> usize {
+        match self {
+            What::Tokens => WORDS,
+            What::Key => 1,
+            What::Bodies(_) => ITEM_WORDS,
+        }
+    }
+
     /// Room in which nothing is counted first.
     fn plenty(&self, text: &[u8]) -> usize {
         match self {
@@ -296,7 +305,7 @@ fn name(f: &str) -> &str {
 fn verify(w: &What, f: &str, text: &[u8]) {
     let want = w.want(text);
     let key = matches!(w, What::Key);
-    let count = want.len() / if key { 1 } else { 3 };
+    let count = want.len() / w.width();
     for room in [w.plenty(text), want.len()] {
         let mut k = Kept::new(w, room);
         assert_eq!(k.port(w, text), Answer { number: 0, also: count as u64 });

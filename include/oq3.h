@@ -152,7 +152,8 @@ enum { OQ3_WORDS = 3, OQ3_ITEM_WORDS = 3 };
  * There are no more tokens than bytes: OQ3_WORDS * text_len words are always enough, and where they are there nothing is counted first, which
  * is about twice as fast. With less room the text is cut twice, since a refusal must leave the list as it was.
  *
- * An array of oq3_token has the same layout as the list: (uint32_t *)row and OQ3_WORDS times its records may be lent, or the row itself to the next one.
+ * An array of oq3_token has the same layout as the list: (uint32_t *)row and OQ3_WORDS times its records may be lent, or the row itself to the
+ * next one.
  */
 oq3_answer oq3_tokenize(const uint8_t *text, size_t text_len, uint32_t profile, uint32_t *list, size_t words);
 

@@ -21,6 +21,8 @@ void *mmap(void *, size_t, int, int, int, long);
 typedef char answer_16[sizeof(oq3_answer) == 16 && offsetof(oq3_answer, also) == 8 ? 1 : -1];
 typedef char char_16[sizeof(oq3_char) == 16 && offsetof(oq3_char, wide) == 8 ? 1 : -1];
 typedef char records[sizeof(oq3_token) == 4 * OQ3_WORDS && sizeof(oq3_item) == 4 * OQ3_ITEM_WORDS ? 1 : -1];
+/* a list with room for so many tokens has it for so many items */
+typedef char items_fit[OQ3_ITEM_WORDS <= OQ3_WORDS ? 1 : -1];
 typedef char sight_24[sizeof(oq3_sight) == 24 && offsetof(oq3_sight, start) == 8 && offsetof(oq3_sight, length) == 16 ? 1 : -1];
 typedef char comparison_80[sizeof(oq3_comparison) == 80 && offsetof(oq3_comparison, refusal) == 8 && offsetof(oq3_comparison, agreed) == 24
                                    && offsetof(oq3_comparison, in_old) == 32 && offsetof(oq3_comparison, in_new) == 56

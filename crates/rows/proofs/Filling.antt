@@ -10,7 +10,6 @@ use lib.Seq.{sets, sets-eq, drop-drop}
 use lib.Dec.{ltb}
 use borrow.Author.Tests.{ltb-true, ltb-false}
 use Rattle.lists.proofs.Bools.{by-test}
-use Rattle.unicode.specs.Utf8.{chars}
 use Rattle.unicode.specs.Text.{left}
 use Rattle.unicode.proofs.Text.{point-at, bytes-chars}
 use Rattle.cutters.specs.Records as definitions
