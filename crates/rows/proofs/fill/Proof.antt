@@ -49,10 +49,10 @@ use denote.Triple.Statement.{Contract, Triple}
 use denote.Triple.Table.{entered, cited}
 use denote.Triple.Walked.{says, needs, Stays, stay-none, stay-slice, stay-none-slice, walkOf, goes-none, goes-slice, goes-none-slice, Walks, ends-at, walked, walk-meets}
 use denote.Exit.{yes}
-use Rattle.unicode.specs.Utf8.{chars}
 use Rattle.text.specs.Answer.{longest}
-use Rattle.lexer.specs.Cut.{Letters, tokens}
+use Rattle.lexer.specs.Cut.{Letters}
 use Rattle.lexer.specs.Unicode.{lent}
+use Rattle.lexer.specs.Promises.{tokensBy}
 use Rattle.rows.specs.Steps.{recordSize, placeAfter, recordNo, rowAfter}
 use Rattle.rows.specs.declared.Token.{Token}
 use Rattle.rows.proofs.Filling.{row-length, not-all, next-within, all-stored}
@@ -157,7 +157,7 @@ module _ {M : Type 1} (𝓤 : URA M) (H : Heap 𝓤) (A : Atoms 𝓤) (W : Given
 
   -- how many tokens there are; after i of them: the place, the record there, and the row
   abbrev n : ℕ
-  n = length (tokens u p (chars (ws .now)))
+  n = length (tokensBy u p (ws .now))
 
   abbrev at : ℕ → ℕ
   at i = placeAfter u p (ws .now) i
@@ -379,7 +379,7 @@ module _ {M : Type 1} (𝓤 : URA M) (H : Heap 𝓤) (A : Atoms 𝓤) (W : Given
   fill-walks = walked 𝓤 H A fill.ended stayed (fill.clauses 𝓤 H A mem run) (WpFn 𝓤 H (𝓣 .C) (𝓣 .Λ) code.function)
       (λ κs. (slice-vals, (uint-vals w32, (slice-vals, (slice-vals, (slice-vals, (slice-vals, tt)))))))
       (λ κs. (shr-slice-tells (named 0) (κs .0) u8, (uint-tells w32, (mut-slice-tells (named 1) (κs .1 .0) T.the-row, (shr-slice-tells (named 2) (κs .1 .1 .0) u32, (shr-slice-tells (named 2) (κs .1 .1 .0) u32, (shr-slice-tells (named 2) (κs .1 .1 .0) u32, tt)))))))
-      (λ κs qs bounds a g are. needs 𝓤 ((length (a .0 .now) ≤ longest) × (length (tokens (lent (a .1 .1 .1 .0 .now) (a .1 .1 .1 .1 .0 .now) (a .1 .1 .1 .1 .1 .0 .now)) (a .1 .0) (chars (a .0 .now))) ≤ length (a .1 .1 .0 .now))) _ (λ asked.
+      (λ κs qs bounds a g are. needs 𝓤 ((length (a .0 .now) ≤ longest) × (length (tokensBy (lent (a .1 .1 .1 .0 .now) (a .1 .1 .1 .1 .0 .now) (a .1 .1 .1 .1 .1 .0 .now)) (a .1 .0) (a .0 .now)) ≤ length (a .1 .1 .0 .now))) _ (λ asked.
       walk 𝓤 H A W mem run (κs .0) (κs .1 .0) (κs .1 .1 .0) (qs .0) (qs .1 .0) (qs .1 .1 .0) (a .0) (a .1 .0) (a .1 .1 .0 .ptr .0) (a .1 .1 .0 .ptr .1) (a .1 .1 .0 .name) (a .1 .1 .0 .now) (a .1 .1 .1 .0) (a .1 .1 .1 .1 .0) (a .1 .1 .1 .1 .1 .0)
       (are .1 .1 .0 .0 .1) (are .1 .0 .1) (asked .0) (asked .1) 𝓣 known (are .0 .0 .1 .0) (are .1 .1 .1 .0 .0 .1 .0) (are .1 .1 .1 .1 .0 .0 .1 .0) (are .1 .1 .1 .1 .1 .0 .0 .1 .0)))
 

@@ -43,15 +43,14 @@ use denote.Triple.Statement.{Contract, Triple}
 use denote.Triple.Table.{entered, cited}
 use denote.Triple.Walked.{says, Stays, stay-none, gave-slice, stay-none-slice, walkOf, goes-none, goes-gave-slice, goes-none-slice, Walks, ends-at, walked, walk-meets}
 use denote.Exit.{yes}
-use Rattle.unicode.specs.Utf8.{chars}
 use Rattle.unicode.specs.Ranges.{flat}
 use Rattle.ucd.specs.Ucd.{xidStart, xidContinue, emoji as emojis}
 use Rattle.text.specs.Answer.{Answered, longest}
 use Rattle.text.specs.declared.Answer.{Answer}
 use Rattle.text.proofs.Answer as S
 use Rattle.text.proofs.Answer.Laws as S′
-use Rattle.lexer.specs.Cut.{tokens}
 use Rattle.lexer.specs.Unicode.{lent}
+use Rattle.lexer.specs.Promises.{tokensBy}
 use Rattle.rows.specs.Rows.{Rowed}
 use Rattle.rows.specs.Steps.{Judged, Filled}
 use Rattle.rows.specs.declared.Token.{Token}
@@ -303,7 +302,7 @@ module _ {M : Type 1} (𝓤 : URA M) (H : Heap 𝓤) (A : Atoms 𝓤) (W : Given
       Handed = fsep (flft κ₀ q₀) (fsep (flft κ₁ q₁) (fsep (flft (ν ∷ []) fullShare) (fsep Own (fsep Row
           (fsep (Shared 𝓤 H A W u32 1332 lˢ starts (named 2) (ν ∷ []) γˢ) (fsep (Shared 𝓤 H A W u32 1550 lᵐ mores (named 2) (ν ∷ []) γᵐ) (Shared 𝓤 H A W u32 302 lᵉ emos (named 2) (ν ∷ []) γᵉ)))))))
 
-      asks-fill : (length (ws .now) ≤ longest) × (length (tokens (lent starts mores emos) p (chars (ws .now))) ≤ length xs) → ent 𝓤 (sem 𝓤 H A Handed) (Fill 𝓤 H A mem run .pre to-fill)
+      asks-fill : (length (ws .now) ≤ longest) × (length (tokensBy (lent starts mores emos) p (ws .now)) ≤ length xs) → ent 𝓤 (sem 𝓤 H A Handed) (Fill 𝓤 H A mem run .pre to-fill)
       asks-fill ok =
           qed W (‵ Handed ∷ []) ∵ says ! ok $ fsplit ! $ move ! (1 ∷ []) $ fsplit ! $ move ! (1 ∷ []) $ fsplit ! $
           -- [the tables' token; the rest; the row's token; the text's token]
@@ -451,7 +450,7 @@ module _ {M : Type 1} (𝓤 : URA M) (H : Heap 𝓤) (A : Atoms 𝓤) (W : Given
                 -- [what is handed over; what text owns; lent start; lent more; lent emoji; _21; …]
                 use1 W (raw (Fill 𝓤 H A mem run .pre (to-fill ν l₁₁ l₁₅ l₁₉ γˢ γᵐ γᵉ starts mores emos))) (asks-fill ν l₁₁ l₁₅ l₁₉ γˢ γᵐ γᵉ starts mores emos ok) $ called ν γˢ γᵐ γᵉ))))
               where
-                ok : (length (ws .now) ≤ longest) × (length (tokens (lent starts mores emos) p (chars (ws .now))) ≤ length xs)
+                ok : (length (ws .now) ≤ longest) × (length (tokensBy (lent starts mores emos) p (ws .now)) ≤ length xs)
                 ok = (judged-passed xs told passed .0, roomy-letters eˢ eᵐ eᵉ p (length xs) (ws .now) (judged-passed xs told passed .1))
 
           -- the tables are made, one after the other
