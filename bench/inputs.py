@@ -173,6 +173,14 @@ write("bodies/1-plain", lambda: r.choice(words) + " ")
 write("bodies/1-escapes", lambda: r.choice(escapes) + r.choice(words)[: r.randrange(3)])
 write("bodies/1-greek", lambda: "".join(r.choice(greek) for _ in range(r.randrange(1, 9))) + " ")
 write("bodies/4-bytes", lambda: r.choice(words) + r.choice([" ", " ", "\\n", "\\x7F", "\\xFF", "\\\\", "\\0"]))
+
+
+def numbered():
+    c = r.choice([r.randrange(0xD800), r.randrange(0xE000, 0x110000)])
+    return r.choice(["\\x%02x", "\\x%02X"]) % r.randrange(0x80) if r.randrange(2) else r.choice(["\\u{%x}", "\\u{%X}"]) % c
+
+
+write("bodies/1-numbers", numbered)
 for folder in (out, bodies):
     for f in sorted(os.listdir(folder)):
         if os.path.isfile(os.path.join(folder, f)):

@@ -1,12 +1,14 @@
 #!/usr/bin/env python3
 """Compares the program `answers` with the Rust crate on generated texts: task tok under both profiles, and task ident; or, with --bodies, the
-tasks unescape in all seven modes, char and byte, on bodies of literals.
+tasks unescape in all seven modes, char and byte, on bodies of literals; or, with --digits, the task unescape in modes 1 and 4 on escapes by
+number, with every pair of characters of ASCII and every scalar value as a digit.
 
-    tools/compare.py RELEASE DEBUG ANSWERS [--bodies] [--short N] [--random N] [--seed S] [--programs DIR]
+    tools/compare.py RELEASE DEBUG ANSWERS [--bodies | --digits] [--short N] [--random N] [--seed S] [--programs DIR]
 
 RELEASE and DEBUG are the program that answers cases with the crate, built without and with debug assertions; ANSWERS is
 target/bin/answers. Every text of at most N pieces of the alphabet is compared (--short), then random texts of several sorts,
-and damaged ones. Exit status 1 if an answer differs; the first few that do are printed.
+and damaged ones; with --digits there are no others, and --short, --random and --seed do nothing. Exit status 1 if an answer differs;
+the first few that do are printed.
 """
 import argparse
 import itertools
@@ -99,6 +101,16 @@ def bodies(rng, count):
             yield b"\\\n" + b"".join(rng.choice((b" ", b"\t", b"\n", b"\r", scalar(rng), rng.choice(BODY_WORDS))) for _ in range(rng.randint(0, 5)))
 
 
+def digits():
+    for pair in itertools.product(range(0x80), repeat=2):
+        yield b"\\x" + bytes(pair)
+        yield b"\\u{" + bytes(pair) + b"}"
+    for c in itertools.chain(range(0xD800), range(0xE000, 0x110000)):
+        digit = chr(c).encode()
+        yield b"\\x0" + digit
+        yield b"\\u{" + digit + b"}"
+
+
 def short(alphabet, length):
     for n in range(length + 1):
         for pieces in itertools.product(alphabet, repeat=n):
@@ -107,6 +119,8 @@ def short(alphabet, length):
 
 def tasks(options):
     """The beginnings of the cases that are asked of each text, with the program that answers them by the Rust."""
+    if options.digits:
+        return [(task, oracle) for oracle in (options.release, options.debug) for task in (b"unescape 1", b"unescape 4")]
     if options.bodies:
         asked = [b"unescape %d" % mode for mode in range(7)] + [b"char", b"byte"]
         return [(task, oracle) for oracle in (options.release, options.debug) for task in asked]
@@ -145,7 +159,9 @@ def main():
     parser.add_argument("release")
     parser.add_argument("debug")
     parser.add_argument("answers")
-    parser.add_argument("--bodies", action="store_true")
+    group = parser.add_mutually_exclusive_group()
+    group.add_argument("--bodies", action="store_true")
+    group.add_argument("--digits", action="store_true")
     parser.add_argument("--short", type=int, default=3)
     parser.add_argument("--random", type=int, default=500000)
     parser.add_argument("--seed", type=int, default=1)
@@ -155,7 +171,9 @@ def main():
     programs = [p.read_bytes() for p in sorted(pathlib.Path(options.programs).iterdir())] if options.programs else []
     total, wrong = 0, []
     whole = [p for p in programs if len(p) <= 32000]
-    if options.bodies:
+    if options.digits:
+        stream = digits()
+    elif options.bodies:
         stream = itertools.chain(short(BODY_ALPHABET, options.short), bodies(rng, options.random))
     else:
         stream = itertools.chain(whole, short(ALPHABET, options.short), texts(rng, options.random, programs))

@@ -3,47 +3,58 @@
 use Prim.Native.Nat.{ℕ, suc, _+_, _-_, _*_, _^_, _≤_, _<_, min}
 use native.Mathlib.Omega.{arith}
 use native.Mathlib.Nat.{pow-suc, pow-le-pow-right}
-use mathlib.Core.Path.{_≡_, refl, ap, sym, _∙_}
+use mathlib.Core.Path.{_≡_, refl, sym, _∙_}
 use mathlib.Core.Bool.{Bool, true, false, not}
 use mathlib.Core.List.{List}
 use lib.ListN.{length, getD}
 use lib.Dec.{eqb, ltb}
 use borrow.Author.Tests.{lt-leb, ltb-true, ltb-false, ne-eqb, not-false}
-use Rattle.lists.specs.Steps.{valuesFrom}
 use Rattle.lists.proofs.Bools.{by-test, and-false}
-use Rattle.lists.proofs.Values.{values-at}
+use Rattle.unicode.specs.Ranges.{_to_, inRange}
 use Rattle.unicode.specs.Steps.{Ate}
+use Rattle.unicode.proofs.Rows.{in-range}
 use Rattle.unicode.proofs.Ascii.{Going, going-none, going-on, going-halt, going-end}
 use Rattle.unescape.specs.Escapes.{toDigit, orUnderscore, countDigit, valued, addDigit}
-use Rattle.unescape.specs.Steps.{digitValues}
 
--- ---- the table, and what lies outside
+-- ---- the value of a digit, by its range
+-- what lies beyond the high end of a range does not lie in it
+beyond : (lo hi c : ℕ) → hi < c → inRange c (lo to hi) ≡ false
+beyond lo hi c h = simp (lt-leb c hi h, and-false)
+
+module _ (c : ℕ) {r : ℕ} where
+  pub digit-decimal : inRange c (0x30 to 0x39) ≡ true → r ≡ c - 0x30 → r ≡ toDigit c
+  unfolding toDigit
+  digit-decimal h e = rw h e
+
+  pub digit-upper : inRange c (0x41 to 0x46) ≡ true → r ≡ c - 0x41 + 10 → r ≡ toDigit c
+  unfolding toDigit
+  digit-upper h e = let l = in-range 0x41 0x46 c h in rw (beyond 0x30 0x39 c (omega arith), h) e
+
+  pub digit-lower : inRange c (0x61 to 0x66) ≡ true → r ≡ c - 0x61 + 10 → r ≡ toDigit c
+  unfolding toDigit
+  digit-lower h e = let l = in-range 0x61 0x66 c h in rw (beyond 0x30 0x39 c (omega arith), beyond 0x41 0x46 c (omega arith), h) e
+
+  pub digit-none : inRange c (0x30 to 0x39) ≡ false → inRange c (0x41 to 0x46) ≡ false → inRange c (0x61 to 0x66) ≡ false → r ≡ 16 → r ≡ toDigit c
+  unfolding toDigit
+  digit-none h k l e = rw (h, k, l) e
+
+  pub digit-most : r ≡ toDigit c → r ≤ 16
+  unfolding toDigit
+  digit-most e =
+      by-test (inRange c (0x30 to 0x39)) (λ h. omega (arith, rw h at e, in-range 0x30 0x39 c h))
+      (λ h. by-test (inRange c (0x41 to 0x46)) (λ k. omega (arith, rw (h, k) at e, in-range 0x41 0x46 c k))
+      (λ k. by-test (inRange c (0x61 to 0x66)) (λ l. omega (arith, rw (h, k, l) at e, in-range 0x61 0x66 c l)) (λ l. omega (arith, rw (h, k, l) at e))))
+
+-- none before `0`, and none behind `f`, is a digit
 pub digit-below : (c : ℕ) → c < 0x30 → 16 ≡ toDigit c
-unfolding toDigit
-digit-below c h = simp (lt-leb 0x30 c h, lt-leb 0x41 c (omega arith), lt-leb 0x61 c (omega arith))
+digit-below c h = digit-none c (simp (lt-leb 0x30 c h)) (simp (lt-leb 0x41 c (omega arith))) (simp (lt-leb 0x61 c (omega arith))) refl
 
-above : (c : ℕ) → 0x66 < c → 16 ≡ toDigit c
-unfolding toDigit
-above c h =
-    simp (lt-leb c 0x39 (omega arith), lt-leb c 0x46 (omega arith), lt-leb c 0x66 (omega arith), and-false)
-
-values-long : length digitValues ≡ 55
-unfolding digitValues valuesFrom
-values-long = refl
-
-module _ (c : ℕ) {digits : List ℕ} {i : ℕ} (t : digits ≡ digitValues) (l : 0x30 ≤ c) (f : i ≡ c - 0x30) where
-  pub digit-read : {d : ℕ} → i < length digits → d ≡ getD digits i 0 → d ≡ toDigit c
-  unfolding digitValues
-  digit-read h e =
-      let k : i < 55 = omega (arith, ap length t, values-long) in
-      e ∙ ap (λ (m : List ℕ). getD m i 0) t ∙ values-at toDigit 55 0x30 i k ∙ (let z : 0x30 + i ≡ c = omega arith in rw z)
-
-  pub digit-above : length digits ≤ i → 16 ≡ toDigit c
-  digit-above h = above c (omega (arith, ap length t, values-long))
+pub digit-above : (c : ℕ) → 0x66 < c → 16 ≡ toDigit c
+digit-above c h = digit-none c (beyond 0x30 0x39 c (omega arith)) (beyond 0x41 0x46 c (omega arith)) (beyond 0x61 0x66 c h) refl
 
 -- only ASCII is a digit
 pub digit-wide : (c : ℕ) → 0x80 ≤ c → orUnderscore c ≡ false
-digit-wide c h = rw (ne-eqb c 0x5F (λ e. omega arith), ← above c (omega arith))
+digit-wide c h = rw (ne-eqb c 0x5F (λ e. omega arith), ← digit-above c (omega arith))
 
 -- ---- the value of the first six digits
 abbrev cap : ℕ → ℕ

@@ -1,12 +1,15 @@
 -- Worked examples, computed; and programs that the promises rule out.
 -- Assumes nothing.
-use Prim.Native.Nat.{ℕ}
+use Prim.Native.Nat.{ℕ, _+_, _<_}
 use native.Mathlib.Omega.{arith}
 use mathlib.Core.Path.{_≡_, refl}
 use mathlib.Core.Bool.{true, false}
 use mathlib.Core.List.{List, [], _∷_, flatten}
+use lib.ListN.{getD}
 use Rattle.lists.specs.Cut.{cut, pieces}
 use Rattle.lists.specs.Eat.{eat}
+use Rattle.lists.specs.Steps.{valuesFrom}
+use Rattle.lists.proofs.Values.{values-at}
 use Rattle.unicode.specs.Ranges.{inTable}
 use Rattle.unicode.specs.Utf8.{table, behind, begins, joined, readBy, first, next, chars, width, isScalar, goodBytes, validUpTo}
 use Rattle.unicode.specs.Text.{byteLength}
@@ -17,6 +20,7 @@ use Rattle.modes.specs.Errors.{error, number, loneSurrogateUnicodeEscape, unico
 use Rattle.unescape.specs.Escapes.{toDigit, hexDigit, hexEscape, firstDigit, moreDigits, codePoint, closing, braced, unicodeEscape, simple, escape, asciiCheck}
 use Rattle.unescape.specs.Bodies.{alone, oneChar, charOrByte, strChar, rawChar, unskipped, skipped, slashed, strCommon, rawStr, turn, turns, items, itemsOf, flat}
 use Rattle.unescape.specs.Promises.{answerOf, listed, Unescaped, part, single}
+use Rattle.unescape.proofs.Digits.{digit-below, digit-above}
 
 -- to unfold this is to unfold all that the examples compute with
 definitions : ℕ
@@ -60,6 +64,17 @@ told (sample mode body words ∷ t) = words ∷ told t
 pub samples-hold : given samples ≡ told samples
 unfolding samples given told definitions
 samples-hold = refl
+
+-- ---- what each character from `0` to `f` is worth as a digit, 16 for none
+abbrev pub digits : List ℕ
+digits =
+    0 ∷ 1 ∷ 2 ∷ 3 ∷ 4 ∷ 5 ∷ 6 ∷ 7 ∷ 8 ∷ 9 ∷ 16 ∷ 16 ∷ 16 ∷ 16 ∷ 16 ∷ 16 ∷ 16 ∷ 10 ∷ 11 ∷ 12 ∷ 13 ∷ 14 ∷ 15 ∷
+    16 ∷ 16 ∷ 16 ∷ 16 ∷ 16 ∷ 16 ∷ 16 ∷ 16 ∷ 16 ∷ 16 ∷ 16 ∷ 16 ∷ 16 ∷ 16 ∷ 16 ∷ 16 ∷ 16 ∷ 16 ∷ 16 ∷ 16 ∷ 16 ∷ 16 ∷ 16 ∷ 16 ∷ 16 ∷ 16 ∷ 10 ∷ 11 ∷ 12 ∷ 13 ∷ 14 ∷ 15 ∷ []
+
+-- the ranges give the same, and 16 before and behind
+pub all-digits : ((i : ℕ) → i < 55 → getD digits i 0 ≡ toDigit (0x30 + i)) × ((c : ℕ) → c < 0x30 → 16 ≡ toDigit c) × ((c : ℕ) → 0x66 < c → 16 ≡ toDigit c)
+unfolding valuesFrom toDigit
+all-digits = (values-at toDigit 55 0x30, digit-below, digit-above)
 
 -- ---- programs that the promises rule out: at one call each, what the program would answer or leave is not allowed
 -- a surrogate told before the error of byte mode

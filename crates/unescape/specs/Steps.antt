@@ -6,7 +6,6 @@ use mathlib.Core.Bool.{Bool, true, false, cond}
 use mathlib.Core.List.{List, [], _∷_, _++_}
 use lib.ListN.{length}
 use lib.Seq.{sets}
-use Rattle.lists.specs.Steps.{valuesFrom}
 use Rattle.unicode.specs.Steps.{Place}
 use Rattle.unicode.specs.Text.{left}
 use Rattle.text.specs.Steps.{Stored}
@@ -14,12 +13,7 @@ use Rattle.unescape.specs.declared.escapes.Escape.{Escape}
 use Rattle.unescape.specs.declared.escapes.Escape.the-variants.{Value, Error}
 use Rattle.unescape.specs.declared.bodies.Step.{Step}
 use Rattle.modes.specs.Errors.{Outcome, char, error, number, unskippedWhitespaceWarning}
-use Rattle.unescape.specs.Escapes.{toDigit}
 use Rattle.unescape.specs.Bodies.{Item, given, flat}
-
--- the constant table: what the 55 characters from 0 to f are worth
-unfoldable pub digitValues : List ℕ
-digitValues = valuesFrom toDigit 0x30 55
 
 -- ---- the answer of a scanner: what it says, and the place behind it
 abbrev pub resultOf : Escape → Outcome

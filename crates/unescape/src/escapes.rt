@@ -4,7 +4,7 @@ ghost use Prim.Native.Nat.{_≤_, _<_};
 ghost use lib.ListN.{length};
 ghost use Rattle.unicode.specs.Steps.{Ate};
 ghost use Rattle.unescape.specs.Escapes.{toDigit, hexDigit, hexEscape, firstDigit, orUnderscore, countDigit, valued, addDigit, codePoint, closing, braced, unicodeEscape, simple, escape, asciiCheck};
-ghost use Rattle.unescape.specs.Steps.{digitValues, escapeAt, valueOf, Scanned};
+ghost use Rattle.unescape.specs.Steps.{escapeAt, valueOf, Scanned};
 use modes::errors;
 use unicode::utf8::decode;
 
@@ -23,81 +23,23 @@ struct Digits {
 }
 
 // What is no digit.
-const NO_DIGIT: u8 = 16;
+const NO_DIGIT: u32 = 16;
 
-// The digits' values, from `0` to `f`.
-const DIGITS: [u8; 55] = [
-    0,
-    1,
-    2,
-    3,
-    4,
-    5,
-    6,
-    7,
-    8,
-    9,
-    16,
-    16,
-    16,
-    16,
-    16,
-    16,
-    16,
-    10,
-    11,
-    12,
-    13,
-    14,
-    15,
-    16,
-    16,
-    16,
-    16,
-    16,
-    16,
-    16,
-    16,
-    16,
-    16,
-    16,
-    16,
-    16,
-    16,
-    16,
-    16,
-    16,
-    16,
-    16,
-    16,
-    16,
-    16,
-    16,
-    16,
-    16,
-    16,
-    10,
-    11,
-    12,
-    13,
-    14,
-    15,
-];
-
-// Over the table as it was lent, since to index the constant would store it anew for each digit.
-fn to_digit(digits: &[u8], c: u32) -> u8
-    requires { ⌜ now digits ≡ digitValues ⌝ }
+// The value of a hexadecimal digit, by its range. All three are asked, so that no jump depends on the digit, which cannot be guessed.
+fn to_digit(c: u32) -> u32
     ensures { λ r. ⌜ r ≡ toDigit c ⌝ }
 {
-    if c < 0x30 {
-        return NO_DIGIT;
+    let mut value = NO_DIGIT;
+    if (0x30 <= c) & (c <= 0x39) {
+        value = c - 0x30;
     }
-    let i = (c - 0x30) as usize;
-    if i < digits.len() {
-        digits[i]
-    } else {
-        NO_DIGIT
+    if (0x41 <= c) & (c <= 0x46) {
+        value = c - 0x41 + 10;
     }
+    if (0x61 <= c) & (c <= 0x66) {
+        value = c - 0x61 + 10;
+    }
+    value
 }
 
 // The escapes of one character.
@@ -116,43 +58,35 @@ pub fn simple(c: u32, end: usize) -> Escape
     }
 }
 
-fn hex_digit(text: &[u8], at: usize, digits: &[u8]) -> Escape
-    requires { ⌜ (at ≤ length (now text)) × (now digits ≡ digitValues) ⌝ }
+fn hex_digit(text: &[u8], at: usize) -> Escape
+    requires { ⌜ at ≤ length (now text) ⌝ }
     ensures { λ r. ⌜ (Scanned hexDigit (now (text .entry)) at r) × (valueOf r < 16) ⌝ }
 {
     if text.len() <= at {
         return Escape::Error(errors::TOO_SHORT_HEX_ESCAPE, at);
     }
     let d = decode(text, at);
-    let digit = to_digit(digits, d.code);
+    let digit = to_digit(d.code);
     if NO_DIGIT <= digit {
         return Escape::Error(errors::INVALID_CHAR_IN_HEX_ESCAPE, at + d.wide);
     }
-    Escape::Value(digit as u32, at + d.wide)
+    Escape::Value(digit, at + d.wide)
 }
 
-// Two digits.
-fn hex_pair(text: &[u8], at: usize, digits: &[u8]) -> Escape
-    requires { ⌜ (at ≤ length (now text)) × (now digits ≡ digitValues) ⌝ }
-    ensures { λ r. ⌜ Scanned hexEscape (now (text .entry)) at r ⌝ }
-{
-    let first = hex_digit(text, at, digits);
-    let Escape::Value(hi, next) = first else {
-        return first;
-    };
-    let second = hex_digit(text, next, digits);
-    let Escape::Value(lo, end) = second else {
-        return second;
-    };
-    Escape::Value(hi * 16 + lo, end)
-}
-
-// Behind `\x`. Here and in `scan_unicode` the table is lent, once for an escape.
+// Behind `\x`: two digits.
 pub fn scan_hex(text: &[u8], at: usize) -> Escape
     requires { ⌜ at ≤ length (now text) ⌝ }
     ensures { λ r. ⌜ Scanned hexEscape (now (text .entry)) at r ⌝ }
 {
-    hex_pair(text, at, &DIGITS)
+    let first = hex_digit(text, at);
+    let Escape::Value(hi, next) = first else {
+        return first;
+    };
+    let second = hex_digit(text, next);
+    let Escape::Value(lo, end) = second else {
+        return second;
+    };
+    Escape::Value(hi * 16 + lo, end)
 }
 
 // Behind a backslash.
@@ -175,8 +109,8 @@ pub fn scan_escape(text: &[u8], at: usize, ascii_only: bool) -> Escape
 }
 
 // The first digit of `\u{..}`.
-fn first_digit(text: &[u8], at: usize, digits: &[u8]) -> Escape
-    requires { ⌜ (at ≤ length (now text)) × (now digits ≡ digitValues) ⌝ }
+fn first_digit(text: &[u8], at: usize) -> Escape
+    requires { ⌜ at ≤ length (now text) ⌝ }
     ensures { λ r. ⌜ (Scanned firstDigit (now (text .entry)) at r) × (valueOf r < 16) ⌝ }
 {
     if text.len() <= at {
@@ -190,15 +124,15 @@ fn first_digit(text: &[u8], at: usize, digits: &[u8]) -> Escape
     if d.code == 0x7D {
         return Escape::Error(errors::EMPTY_UNICODE_ESCAPE, next);
     }
-    let digit = to_digit(digits, d.code);
+    let digit = to_digit(d.code);
     if NO_DIGIT <= digit {
         return Escape::Error(errors::INVALID_CHAR_IN_UNICODE_ESCAPE, next);
     }
-    Escape::Value(digit as u32, next)
+    Escape::Value(digit, next)
 }
 
 // By the character and what it is worth.
-fn is_digit_or_underscore(c: u32, digit: u8) -> bool
+fn is_digit_or_underscore(c: u32, digit: u32) -> bool
     requires { ⌜ digit ≡ toDigit c ⌝ }
     ensures { λ r. ⌜ r ≡ orUnderscore c ⌝ }
 {
@@ -219,7 +153,7 @@ fn count_digit(count: usize, c: u32) -> usize
 }
 
 // From the seventh digit on the value is no longer asked for, and so it stays below 2^24.
-fn add_digit(count: usize, value: u32, c: u32, digit: u8) -> u32
+fn add_digit(count: usize, value: u32, c: u32, digit: u32) -> u32
     requires { ⌜ (digit ≡ toDigit c) × (count < 6 → value < 1048576) ⌝ }
     ensures { λ r. ⌜ r ≡ valued count value c ⌝ }
 {
@@ -229,12 +163,12 @@ fn add_digit(count: usize, value: u32, c: u32, digit: u8) -> u32
     if 6 <= count {
         return value;
     }
-    value * 16 + digit as u32
+    value * 16 + digit
 }
 
 // Behind a first digit, byte by byte: only ASCII is a digit.
-fn more_digits(text: &[u8], from: usize, first: u32, digits: &[u8]) -> Digits
-    requires { ⌜ (from ≤ length (now text)) × (first < 16) × (now digits ≡ digitValues) ⌝ }
+fn more_digits(text: &[u8], from: usize, first: u32) -> Digits
+    requires { ⌜ (from ≤ length (now text)) × (first < 16) ⌝ }
     ensures { λ r. ⌜ Ate orUnderscore addDigit (now (text .entry)) from (1, first) (r .at) (r .count, r .value) ⌝ }
 {
     let mut at = from;
@@ -243,7 +177,7 @@ fn more_digits(text: &[u8], from: usize, first: u32, digits: &[u8]) -> Digits
     while at < text.len() {
         let b = text[at];
         let c = b as u32;
-        let digit = to_digit(digits, c);
+        let digit = to_digit(c);
         if !is_digit_or_underscore(c, digit) {
             return Digits { count, value, at };
         }
@@ -293,15 +227,15 @@ fn closing_brace(text: &[u8], at: usize, count: usize, value: u32, ascii_only: b
 }
 
 // Behind `\u{`.
-fn scan_braced(text: &[u8], at: usize, ascii_only: bool, digits: &[u8]) -> Escape
-    requires { ⌜ (at ≤ length (now text)) × (now digits ≡ digitValues) ⌝ }
+fn scan_braced(text: &[u8], at: usize, ascii_only: bool) -> Escape
+    requires { ⌜ at ≤ length (now text) ⌝ }
     ensures { λ r. ⌜ Scanned (braced «ascii_only») (now (text .entry)) at r ⌝ }
 {
-    let first = first_digit(text, at, digits);
+    let first = first_digit(text, at);
     let Escape::Value(digit, next) = first else {
         return first;
     };
-    let more = more_digits(text, next, digit, digits);
+    let more = more_digits(text, next, digit);
     closing_brace(text, more.at, more.count, more.value, ascii_only)
 }
 
@@ -315,7 +249,7 @@ pub fn scan_unicode(text: &[u8], at: usize, ascii_only: bool) -> Escape
     if d.code != 0x7B {
         return Escape::Error(errors::NO_BRACE_IN_UNICODE_ESCAPE, next);
     }
-    scan_braced(text, next, ascii_only, &DIGITS)
+    scan_braced(text, next, ascii_only)
 }
 
 // A character that stands for itself.

@@ -1,3 +1,4 @@
+use Rattle.unescape.proofs.Digits.{digit-most}
 use borrow.Author.Tests.{eq-eqb, ne-eqb, le-ltb, lt-ltb}
 use native.Mathlib.Omega.{arith}
 use Rattle.unescape.proofs.escapes.add_digit.Statement.{statement}
@@ -13,7 +14,7 @@ mul-result : tie.Need-mul-result
 mul-result c = omega (arith, c .before .before .pre .1 (c .if2 .left))
 
 add-result : tie.Need-add-result
-add-result c = omega (arith, c .before .before .pre .1 (c .if2 .left))
+add-result c = omega (arith, c .before .before .pre .1 (c .if2 .left), digit-most _ (c .before .before .pre .0))
 
 returns-3 : tie.Need-returns-3
 returns-3 c = rw (ne-eqb _ _ (c .before .if1 .left), lt-ltb _ _ (c .if2 .left), ← c .before .before .pre .0)

@@ -26,9 +26,6 @@ to-digit-requires c κs = search needs
 returns-4 : tie.Need-returns-4
 returns-4 c = search (needs, scanning)
 
-cast-t9 : tie.Need-cast-t9
-cast-t9 c = search needs
-
 returns-5 : tie.Need-returns-5
 returns-5 c = search (needs, scanning)
 
@@ -43,5 +40,4 @@ first-digit-spec =
     returns-3
     to-digit-requires
     returns-4
-    cast-t9
     returns-5)

@@ -14,17 +14,14 @@ decode-requires c κs = search needs
 to-digit-requires : tie.Need-to-digit-requires
 to-digit-requires c κs = search needs
 
-add-t8 : tie.Need-add-t8
-add-t8 c = omega (arith, decoded-fits)
+add-t7 : tie.Need-add-t7
+add-t7 c = omega (arith, decoded-fits)
 
 returns-2 : tie.Need-returns-2
 returns-2 c = search (needs, scanning)
 
-cast-t9 : tie.Need-cast-t9
-cast-t9 c = search needs
-
-add-t6 : tie.Need-add-t6
-add-t6 c = omega (arith, decoded-fits)
+add-t5 : tie.Need-add-t5
+add-t5 c = omega (arith, decoded-fits)
 
 returns-3 : tie.Need-returns-3
 returns-3 c = search (needs, scanning)
@@ -32,4 +29,4 @@ returns-3 c = search (needs, scanning)
 pub hex-digit-spec : {M : Type 1} → statement M
 hex-digit-spec =
     tie.close
-    (tie.spec returns decode-requires to-digit-requires add-t8 returns-2 cast-t9 add-t6 returns-3)
+    (tie.spec returns decode-requires to-digit-requires add-t7 returns-2 add-t5 returns-3)

@@ -9,11 +9,11 @@ use Rattle.unescape.proofs.escapes.more_digits.Statement.{statement}
 use Rattle.unescape.proofs.escapes.more_digits.Tie as tie
 
 abbrev Inv-loop : tie.InvT-loop
-Inv-loop text from first digits at₀ count₀ value₀ at count value =
+Inv-loop text from first at₀ count₀ value₀ at count value =
     Going orUnderscore addDigit text from (1, first) at (count, value) × Small count value × (count ≤ at + 1)
 
 abbrev μ-loop : tie.MeasureT-loop
-μ-loop text from first digits at₀ count₀ value₀ at count value = length text - at
+μ-loop text from first at₀ count₀ value₀ at count value = length text - at
 
 loop-holds : tie.Need-loop-holds Inv-loop μ-loop
 loop-holds c = search (needs, digit-by-digit, small-first)
@@ -22,7 +22,7 @@ shared-slice-read-b : tie.Need-shared-slice-read-b Inv-loop μ-loop
 shared-slice-read-b c = search needs
 
 cast-c : tie.Need-cast-c Inv-loop μ-loop
-cast-c c = omega (arith, c .shared-slice-known3 .given (c .before .before .loop .at))
+cast-c c = omega (arith, c .shared-slice-known2 .given (c .before .before .loop .at))
 
 to-digit-requires : tie.Need-to-digit-requires Inv-loop μ-loop
 to-digit-requires c κs = search needs

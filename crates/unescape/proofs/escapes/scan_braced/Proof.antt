@@ -19,7 +19,7 @@ returns c = braced-error _ (c .before .before .first-digit .ensures .0) (c .enum
 more-digits-requires : tie.Need-more-digits-requires
 more-digits-requires c κs =
     let h = c .before .before .before .first-digit .ensures in
-    (value-within (h .0) (c .before .first .given .1), value-small (h .1) (c .before .first .given .1), search needs)
+    (value-within (h .0) (c .before .first .given .1), value-small (h .1) (c .before .first .given .1))
 
 closing-brace-requires : tie.Need-closing-brace-requires
 closing-brace-requires c κs = search needs
