@@ -58,11 +58,16 @@ enum {
 /* The most bytes that a text may have. */
 #define OQ3_LONGEST UINT32_C(4294967295)
 
-/* Profiles: how the Rust crate oq3_lexer 0.7.0 cuts when it is built for release, and when it is built with debug assertions. */
+/*
+ * Profiles: how the Rust crate oq3_lexer 0.7.0 cuts when it is built for release, and when it is built with debug assertions. They differ in
+ * one thing: with debug assertions a word that begins with `pragma` is a Pragma to the end of its line, as if `#pragma` stood there, which
+ * is how the language's own documents write it; in release it is an identifier. So lists and keys of one profile are not those of the
+ * other: a caller that keeps some from one has to name it.
+ */
 enum {
     OQ3_PROFILE_RELEASE = 0,
     OQ3_PROFILE_DEBUG = 1,
-    OQ3_DEFAULT_PROFILE = OQ3_PROFILE_RELEASE /* for a caller with no wish of its own */
+    OQ3_DEFAULT_PROFILE = OQ3_PROFILE_DEBUG /* for a caller with no wish of its own */
 };
 
 /* ---- Tokens ------------------------------------------------------------------------------------------------------------------- */

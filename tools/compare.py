@@ -1,9 +1,10 @@
 #!/usr/bin/env python3
-"""Compares the program `answers` with the Rust crate on generated texts: task tok under both profiles, and task ident; or, with --bodies, the
-tasks unescape in all seven modes, char and byte, on bodies of literals; or, with --digits, the task unescape in modes 1 and 4 on escapes by
-number, with every pair of characters of ASCII and every scalar value as a digit.
+"""Compares the program `answers` with the Rust crate on generated texts: task tok under both profiles, and task ident; or, with --listings, the
+task oqlist with no word, which is held to profile 1, with the words 0 and 1, and with one that asks for none; or, with --bodies, the tasks
+unescape in all seven modes, char and byte, on bodies of literals; or, with --digits, the task unescape in modes 1 and 4 on escapes by number,
+with every pair of characters of ASCII and every scalar value as a digit.
 
-    tools/compare.py RELEASE DEBUG ANSWERS [--bodies | --digits] [--short N] [--random N] [--seed S] [--programs DIR]
+    tools/compare.py RELEASE DEBUG ANSWERS [--listings | --bodies | --digits] [--short N] [--random N] [--seed S] [--programs DIR]
 
 RELEASE and DEBUG are the program that answers cases with the crate, built without and with debug assertions; ANSWERS is
 target/bin/answers. Every text of at most N pieces of the alphabet is compared (--short), then random texts of several sorts,
@@ -117,32 +118,64 @@ def short(alphabet, length):
             yield b"".join(pieces)
 
 
+# The limit of `oqlist`, and words that it refuses.
+MOST = 2048
+
+REFUSED = [w.encode() for w in ("2", "9", "00", "01", "10", "0,0", "0,1", "1,", ",", "-1", "+1", "1.0", "x", "--help", "é")]
+
+
 def tasks(options):
-    """The beginnings of the cases that are asked of each text, with the program that answers them by the Rust."""
+    """The beginnings of the cases that are asked of each text, and of those that the Rust is asked, with the program that answers them."""
+    both = (options.release, options.debug)
+    if options.listings:
+        asked = [(b"oqlist -", b"tok 1", options.debug), (b"oqlist 0", b"tok 0", options.release), (b"oqlist 1", b"tok 1", options.debug)]
+        return asked + [(b"oqlist " + word, None, None) for word in REFUSED]
     if options.digits:
-        return [(task, oracle) for oracle in (options.release, options.debug) for task in (b"unescape 1", b"unescape 4")]
-    if options.bodies:
+        asked = [b"unescape 1", b"unescape 4"]
+    elif options.bodies:
         asked = [b"unescape %d" % mode for mode in range(7)] + [b"char", b"byte"]
-        return [(task, oracle) for oracle in (options.release, options.debug) for task in asked]
-    return [(b"tok 0", options.release), (b"tok 1", options.debug), (b"ident", options.release), (b"ident", options.debug)]
+    else:
+        return [(b"tok 0", b"tok 0", options.release), (b"tok 1", b"tok 1", options.debug)] + [(b"ident", b"ident", oracle) for oracle in both]
+    return [(task, task, oracle) for oracle in both for task in asked]
 
 
-def answers(program, cases):
-    return subprocess.run([program], input=cases, stdout=subprocess.PIPE, check=True).stdout.split(b"\n")
+def answers(program, task, batch):
+    cases = b"".join(b"%s %s\n" % (task, t.hex().encode() or b"-") for t in batch)
+    said = subprocess.run([program], input=cases, stdout=subprocess.PIPE, check=True).stdout.split(b"\n")
+    if len(said) != len(batch) + 1:
+        sys.exit("%s answered %d of %d cases" % (program, len(said) - 1, len(batch)))
+    return [line.split(b" = ", 1)[1] for line in said[:-1]]
 
 
-def compare(options, batch):
-    """How many cases were compared, and those that differ."""
+def listing(text, answer):
+    """What `oqlist` prints where the Rust gives these tokens."""
+    if MOST < len(text):
+        return b"refused 2 0"
+    number, also, *records = answer.split(b" ")
+    if number != b"0":
+        return b"refused " + number + b" " + also
+    return b" / ".join([b"tokens " + also] + [record.replace(b",", b" ") for record in records])
+
+
+def wanted(options, task, oracle, batch):
+    """What the answers are held to."""
+    if oracle is None:
+        return [b"refused 1 0"] * len(batch)
+    said = answers(oracle, task, batch)
+    return [listing(t, a) for t, a in zip(batch, said)] if options.listings else said
+
+
+def compare(options, batch, turn):
+    """How many cases were compared, and those that differ. Of the tasks without the Rust a batch is asked one, in turn."""
     wrong = []
     total = 0
-    for task, oracle in tasks(options):
-        cases = b"".join(b"%s %s\n" % (task, t.hex().encode() or b"-") for t in batch)
-        theirs = answers(oracle, cases)
-        ours = answers(options.answers, cases)
-        if len(theirs) != len(ours) or len(ours) != len(batch) + 1:
-            sys.exit("the programs answered %d and %d of %d cases" % (len(theirs) - 1, len(ours) - 1, len(batch)))
+    every = tasks(options)
+    refusing = [t for t in every if t[2] is None]
+    for asked, task, oracle in [t for t in every if t[2]] + refusing[turn % max(1, len(refusing)):][:1]:
+        theirs = wanted(options, task, oracle, batch)
+        ours = answers(options.answers, asked, batch)
         total += len(batch)
-        wrong += [(a, b) for a, b in zip(theirs, ours) if a != b]
+        wrong += [(asked, t, a, b) for t, a, b in zip(batch, theirs, ours) if a != b]
     return total, wrong
 
 
@@ -160,6 +193,7 @@ def main():
     parser.add_argument("debug")
     parser.add_argument("answers")
     group = parser.add_mutually_exclusive_group()
+    group.add_argument("--listings", action="store_true")
     group.add_argument("--bodies", action="store_true")
     group.add_argument("--digits", action="store_true")
     parser.add_argument("--short", type=int, default=3)
@@ -177,12 +211,12 @@ def main():
         stream = itertools.chain(short(BODY_ALPHABET, options.short), bodies(rng, options.random))
     else:
         stream = itertools.chain(whole, short(ALPHABET, options.short), texts(rng, options.random, programs))
-    for batch in batches(stream, 20000):
-        n, w = compare(options, batch)
+    for turn, batch in enumerate(batches(stream, 20000)):
+        n, w = compare(options, batch, turn)
         total += n
         wrong += w
-    for theirs, ours in wrong[:10]:
-        print("Rust:", theirs.decode()[:300], "\nport:", ours.decode()[:300])
+    for asked, text, theirs, ours in wrong[:10]:
+        print(asked.decode(), text.hex()[:300], "\nRust:", theirs.decode()[:300], "\nport:", ours.decode()[:300])
     print(f"{total} cases compared, {len(wrong)} different")
     sys.exit(1 if wrong else 0)
 

@@ -123,6 +123,11 @@ static const sample tokens[] = {
     {"/*/**/", 0, 1, {3, 6, 0}},
     {"pragma", 0, 1, {5, 6, 0}},
     {"pragma", 1, 1, {8, 6, 0}},
+    {"pragma x\ny", OQ3_DEFAULT_PROFILE, 3, {OQ3_KIND_PRAGMA, 8, 0, OQ3_KIND_WHITESPACE, 1, 0, OQ3_KIND_IDENT, 1, 0}},
+    {"pragmatic x", OQ3_DEFAULT_PROFILE, 1, {OQ3_KIND_PRAGMA, 11, 0}},
+    {"#pragma x", OQ3_DEFAULT_PROFILE, 1, {OQ3_KIND_PRAGMA, 9, 0}},
+    {"// pragma", OQ3_DEFAULT_PROFILE, 1, {OQ3_KIND_LINE_COMMENT, 9, 0}},
+    {"pragma x", OQ3_PROFILE_RELEASE, 3, {OQ3_KIND_IDENT, 6, 0, OQ3_KIND_WHITESPACE, 1, 0, OQ3_KIND_IDENT, 1, 0}},
     {"1..2", 0, 3, {52, 2, 2, 12, 1, 0, 44, 1, 1}},
     {"$_ 1sec", 0, 4, {24, 2, 0, 4, 1, 0, 44, 1, 1, 5, 3, 0}},
     {"#prag", 0, 1, {7, 5, 0}},
@@ -189,7 +194,7 @@ static void refusals(void) {
     CHECK(is(oq3_is_ident(bad, 4), 3, 3));
     CHECK(is(oq3_unescape_char(bad, 4), 3, 3));
     CHECK(is(oq3_unescape_byte(bad, 4), 3, 3));
-    CHECK(oq3_default_profile() == OQ3_DEFAULT_PROFILE);
+    CHECK(oq3_default_profile() == OQ3_DEFAULT_PROFILE && OQ3_DEFAULT_PROFILE == OQ3_PROFILE_DEBUG);
     CHECK(is(oq3_check_text(bad, 4), 3, 3));
     CHECK(is(oq3_check_cut(bad, 4, 1), 3, 3));
     CHECK(is(oq3_check_cut(bad, 4, 2), 1, 0));
@@ -769,6 +774,34 @@ static void again(uint32_t profile, size_t n) {
     check(fills(tokenize_rows, OQ3_WORDS, text, text_len, profile, want, n), line, __LINE__);
 }
 
+/*
+ * oqlist WORDS HEX: the words ask for a profile, and the answer is a listing. Whether it is a call that the library has: words that ask for
+ * no profile, and more bytes than the program takes, are the program's to refuse.
+ */
+static bool listing(void) {
+    uint32_t profile = oq3_default_profile();
+    oq3_answer a;
+    size_t i;
+    if (rest[1] != '-')
+        profile = (uint32_t)(rest[1] - '0');
+    if (rest[1] == ' ' || rest[2] != ' ' || profile > 1)
+        return false;
+    rest += 2;
+    text_len = hex(text);
+    if (text_len > 2048)
+        return false;
+    a = oq3_tokenize(text, text_len, profile, list, OQ3_WORDS * text_len);
+    if (a.number != OQ3_DONE) {
+        say(a.number, "refused ");
+        say(a.also, " ");
+        return true;
+    }
+    say(a.also, "tokens ");
+    for (i = 0; i < OQ3_WORDS * a.also; i++)
+        say(list[i], i % OQ3_WORDS == 0 ? " / " : " ");
+    return true;
+}
+
 /* the tasks that write; whether the line is one */
 static bool writing(void) {
     uint32_t selector;
@@ -789,6 +822,8 @@ static bool writing(void) {
         say_records(oq3_unescape_literal(text, text_len, selector, list, OQ3_ITEM_WORDS * (text_len + 1)), OQ3_ITEM_WORDS);
     } else if (task("body")) {
         body();
+    } else if (task("oqlist")) {
+        return listing();
     } else if (task("tokroom") || task("itemroom")) {
         selector = (uint32_t)number();
         room = at_most(number(), WORDS);

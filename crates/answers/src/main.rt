@@ -1,6 +1,7 @@
 // Answers the cases on standard input, one a line: prints each line again, with ` = ` and its answer behind it.
 mod keys;
 mod lines;
+mod listings;
 mod numbers;
 mod output;
 mod records;

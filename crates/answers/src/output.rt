@@ -39,18 +39,24 @@ pub fn print_answer(given: Answer) {
     print_also(given);
 }
 
-// A word, with a comma before it if it goes on a record, else a space.
-pub fn print_word(word: u32, joined: bool) {
-    if joined {
-        print(b",")
-    } else {
-        print(b" ")
-    }
+// A word, with a mark before it.
+pub fn print_word(mark: &[u8], word: u32) {
+    print(mark);
     print_number(word as u64);
 }
 
-// The first n records of a list, each of so many words; for a width of 1, its first n words.
-pub fn print_words(list: &[u32], n: usize, width: usize)
+// With one mark if it begins a record, else with the other.
+fn print_in(word: u32, begins: bool, before: &[u8], between: &[u8]) {
+    if begins {
+        print_word(before, word)
+    } else {
+        print_word(between, word)
+    }
+}
+
+// The first n records of a list, each of so many words, with a mark before each record and one between its words; for a width of 1,
+// its first n words.
+pub fn print_words(list: &[u32], n: usize, width: usize, before: &[u8], between: &[u8])
     requires { ⌜ 1 ≤ width ⌝ }
 {
     let mut i = 0;
@@ -58,7 +64,7 @@ pub fn print_words(list: &[u32], n: usize, width: usize)
         if n <= i / width {
             return;
         }
-        print_word(list[i], i % width != 0);
+        print_in(list[i], i % width == 0, before, between);
         i += 1;
     }
 }

@@ -23,15 +23,15 @@ use text::Answer;
 const ITEM: usize = 3;
 
 // The most words of a list: a token's for each byte of the longest text. An item has no more words than a token.
-const LIST: usize = RECORD * words::TEXT;
+pub const LIST: usize = RECORD * words::TEXT;
 
-type List = [u32; LIST];
+pub type List = [u32; LIST];
 
 // The most records of a row.
 const ROW: usize = 64;
 
 // What stands in a word before the call.
-const BLANK: u32 = 0xA5A5A5A5;
+pub const BLANK: u32 = 0xA5A5A5A5;
 
 // Strings and bit strings, closed or not, are the kinds from 56 to 61. The closed ones are odd.
 const FIRST_STR: u32 = 56;
@@ -164,7 +164,7 @@ fn width_of(task: usize) -> usize
 fn answer_in(task: usize, text: &[u8], asked: Asked, list: &mut List) {
     let given = call_in(task, text, asked, list);
     print_answer(given);
-    print_words(list, shown(task, asked, given), width_of(task));
+    print_words(list, shown(task, asked, given), width_of(task), b" ", b",");
 }
 
 pub fn answer(task: usize, text: &[u8], asked: Asked) {
@@ -173,9 +173,9 @@ pub fn answer(task: usize, text: &[u8], asked: Asked) {
 }
 
 fn print_record(t: Token) {
-    print_word(t.kind, false);
-    print_word(t.len, false);
-    print_word(t.suffix, false);
+    print_word(b" ", t.kind);
+    print_word(b" ", t.len);
+    print_word(b" ", t.suffix);
 }
 
 fn print_row(row: Row, n: usize) {

@@ -4,7 +4,9 @@
 //     tok PROFILE HEX, unescape MODE HEX, key PROFILE HEX
 //     tokroom PROFILE WORDS HEX, itemroom MODE WORDS HEX, keyroom PROFILE BYTES HEX, rowroom PROFILE RECORDS HEX
 //     body PROFILE INDEX MODE HEX, pair PROFILE HEX HEX
+//     oqlist ARGUMENTS HEX
 use crate::keys;
+use crate::listings;
 use crate::numbers;
 use crate::output::UNREADABLE;
 use crate::output::print;
@@ -49,10 +51,12 @@ pub const BODY: usize = 15;
 
 const PAIR: usize = 16;
 
-const UNKNOWN: usize = 17;
+const OQLIST: usize = 17;
+
+const UNKNOWN: usize = 18;
 
 // The task of a line that is too long.
-const TOO_LONG: usize = 18;
+const TOO_LONG: usize = 19;
 
 fn task_of(line: &[u8], long: bool) -> usize {
     if long {
@@ -60,7 +64,7 @@ fn task_of(line: &[u8], long: bool) -> usize {
     }
     words::find(
         words::first(line),
-        b"cp lowbyte mode fatal utf8 ident char byte tok unescape key tokroom itemroom keyroom rowroom body pair",
+        b"cp lowbyte mode fatal utf8 ident char byte tok unescape key tokroom itemroom keyroom rowroom body pair oqlist",
     )
 }
 
@@ -143,6 +147,7 @@ fn answer(task: usize, arguments: &[u8]) {
     }
     match task {
         PAIR => keys::pair(arguments),
+        OQLIST => listings::answer(arguments),
         UNKNOWN => print(b"unknown"),
         TOO_LONG => refuse(),
         _ => read(task, arguments),

@@ -19,13 +19,13 @@ pub struct Bytes {
     pub count: usize,
 }
 
-// The place of the first space, or the end.
-fn first_end(words: &[u8]) -> usize
+// The place of the first mark, or the end.
+fn end_at(words: &[u8], mark: u8) -> usize
     ensures { λ r. ⌜ r ≤ length (now (words .entry)) ⌝ }
 {
     let mut i = 0;
     while i < words.len() {
-        if words[i] == b' ' {
+        if words[i] == mark {
             return i;
         }
         i += 1;
@@ -33,14 +33,19 @@ fn first_end(words: &[u8]) -> usize
     i
 }
 
-pub fn first(words: &[u8]) -> &[u8] {
-    let end = first_end(words);
+// What stands before the first mark: all of it where there is none.
+pub fn before(words: &[u8], mark: u8) -> &[u8] {
+    let end = end_at(words, mark);
     &words[0..end]
+}
+
+pub fn first(words: &[u8]) -> &[u8] {
+    before(words, b' ')
 }
 
 // What stands behind the first space: nothing where there is none.
 pub fn rest(words: &[u8]) -> &[u8] {
-    let end = first_end(words);
+    let end = end_at(words, b' ');
     if end < words.len() {
         return &words[end + 1..];
     }
@@ -78,7 +83,7 @@ pub fn find(word: &[u8], words: &[u8]) -> usize {
         if same(word, first(left)) {
             return i;
         }
-        at += first_end(left) + 1;
+        at += end_at(left, b' ') + 1;
         i += 1;
     }
     i

@@ -1,18 +1,19 @@
-// Prints the tokens of standard input, under the default profile: how many, and then kind, length and suffix start of each.
+// oqlist [PROFILE]: prints the tokens of standard input, under profile 0 or 1, or under the default where no word names one: how
+// many, and then kind, length and suffix start of each. Any other word, or a second one, is refused before the input is looked at.
 //
 // What keeps it from reading or writing goes to standard error. It has no exit status of its own: the launcher gives 0 for
 // tokens, 1 for a refusal and 2 for all else.
 ghost use Prim.Native.Nat.{_≤_};
 ghost use lib.ListN.{length};
+use arguments::MOST;
+use arguments::check_asked;
+use arguments::list_asked;
 use cutters::RECORD;
 use libc::STDIN_FILENO;
 use libc::STDOUT_FILENO;
 use text::Answer;
 
-// The most bytes that are read: the program's own limit.
-const MOST: usize = 2048;
-
-// One more, so that a longer input is seen.
+// One byte more than the program takes, so that a longer input is seen.
 const BUFFER: usize = MOST + 1;
 
 // A record for each byte: room that cannot be short.
@@ -80,8 +81,8 @@ fn print_records(list: &[u32], n: u64) -> bool {
     true
 }
 
-fn list_tokens(text: &[u8], list: &mut [u32]) -> bool {
-    let given = listing::tokenize(text, text::default_profile(), list);
+fn list_tokens(words: usize, first: &[u8], text: &[u8], list: &mut [u32]) -> bool {
+    let given = list_asked(words, first, text, list);
     if given.number != text::DONE {
         return print_refusal(given);
     }
@@ -125,30 +126,50 @@ fn read_input(room: &mut [u8]) -> Input
     Input { whole: true, len }
 }
 
-fn answer(input: &[u8]) -> bool {
-    if MOST < input.len() {
-        return print_refusal(Answer {
-            number: text::TOO_LONG,
-            also: 0,
-        });
-    }
+fn answer(words: usize, first: &[u8], input: &[u8]) -> bool {
     let mut list = [0u32; LIST];
-    list_tokens(input, &mut list)
+    list_tokens(words, first, input, &mut list)
 }
 
-fn run(room: &mut [u8]) {
+// Tells where it was not written.
+fn tell(written: bool) {
+    if !written {
+        os::fail(b"oqlist: standard output");
+    }
+}
+
+fn list_input(words: usize, first: &[u8], room: &mut [u8]) {
     let input = read_input(room);
     if !input.whole {
         os::fail(b"oqlist: standard input");
         return;
     }
     let n = input.len;
-    if !answer(&room[0..n]) {
-        os::fail(b"oqlist: standard output");
-    }
+    tell(answer(words, first, &room[0..n]));
 }
 
-fn main() {
+fn run(words: usize, first: &[u8]) {
+    let checked = check_asked(words, first);
+    if checked.number != text::DONE {
+        tell(print_refusal(checked));
+        return;
+    }
     let mut room = [0u8; BUFFER];
-    run(&mut room);
+    list_input(words, first, &mut room);
+}
+
+// How many words stand behind the program's name.
+fn words() -> usize {
+    let all = os::arg_count();
+    if all == 0 {
+        return 0;
+    }
+    all - 1
+}
+
+// Reads the first word. One that is longer than a profile's name is answered as an empty one, which names none either.
+fn main() {
+    let mut first = [0u8; 1];
+    let n = os::arg(1, &mut first);
+    run(words(), &first[..n]);
 }

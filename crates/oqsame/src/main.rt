@@ -1,5 +1,6 @@
-// oqsame OLD NEW: whether a file is the one that was there before, in all but white space and closed comments. It says so of the
-// counted tokens under the default profile: they are the same exactly when the files' renewal keys are.
+// oqsame OLD NEW [PROFILE]: whether a file is the one that was there before, in all but white space and closed comments. It says so of
+// the counted tokens under profile 0 or 1, or under the default where none is named: they are the same exactly when the files' renewal
+// keys are.
 //
 // It writes to standard output
 //     same
@@ -118,8 +119,8 @@ fn print_difference(old: &[u8], new: &[u8], c: Comparison) -> bool {
     print(b"\n")
 }
 
-fn compare_texts(old: &[u8], old_name: &[u8], new: &[u8], new_name: &[u8]) -> bool {
-    let c = same::compare(old, new, text::default_profile());
+fn compare_texts(profile: u32, old: &[u8], old_name: &[u8], new: &[u8], new_name: &[u8]) -> bool {
+    let c = same::compare(old, new, profile);
     if c.verdict == same::SAME {
         return print(b"same\n");
     }
@@ -173,7 +174,7 @@ fn read_file(name: &[u8], room: &mut [u8]) -> Input
     Input { whole, len }
 }
 
-fn compare_files(old: &mut [u8], old_name: &[u8], new: &mut [u8], new_name: &[u8]) {
+fn compare_files(profile: u32, old: &mut [u8], old_name: &[u8], new: &mut [u8], new_name: &[u8]) {
     let first = read_file(old_name, old);
     if !first.whole {
         return;
@@ -184,13 +185,13 @@ fn compare_files(old: &mut [u8], old_name: &[u8], new: &mut [u8], new_name: &[u8
     }
     let a = first.len;
     let b = second.len;
-    if !compare_texts(&old[0..a], old_name, &new[0..b], new_name) {
+    if !compare_texts(profile, &old[0..a], old_name, &new[0..b], new_name) {
         os::fail(b"oqsame: standard output");
     }
 }
 
 // Reads the two names.
-fn run(old: &mut [u8; MOST], new: &mut [u8; MOST]) {
+fn run(profile: u32, old: &mut [u8; MOST], new: &mut [u8; MOST]) {
     let mut old_name = io::buffer();
     let a = os::arg(1, &mut old_name);
     if os::errno() != 0 {
@@ -203,15 +204,33 @@ fn run(old: &mut [u8; MOST], new: &mut [u8; MOST]) {
         os::fail(b"oqsame: NEW");
         return;
     }
-    compare_files(old, &old_name[..a], new, &new_name[..b]);
+    compare_files(profile, old, &old_name[..a], new, &new_name[..b]);
 }
 
-fn main() {
-    if os::arg_count() != 3 {
-        complain(b"usage: oqsame OLD NEW\n");
+// Goes on where the words behind the two names, the first of which is lent, ask for a profile that is known.
+fn run_under(words: usize, first: &[u8]) {
+    let checked = arguments::check_asked(words, first);
+    if checked.number != text::DONE {
+        complain(b"oqsame: the profile, behind the two names, must be 0 or 1\n");
         return;
     }
     let mut old = [0u8; MOST];
     let mut new = [0u8; MOST];
-    run(&mut old, &mut new);
+    run(arguments::profile_asked(words, first), &mut old, &mut new);
+}
+
+// Reads the profile, if a word behind the two names is to name it. One that is longer than a profile's name is answered as an empty
+// one, which names none either.
+fn read_profile(words: usize) {
+    let mut first = [0u8; 1];
+    let n = os::arg(3, &mut first);
+    run_under(words, &first[..n]);
+}
+
+fn main() {
+    match os::arg_count() {
+        3 => read_profile(0),
+        4 => read_profile(1),
+        _ => complain(b"usage: oqsame OLD NEW [PROFILE]\n"),
+    }
 }

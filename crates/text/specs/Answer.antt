@@ -40,7 +40,7 @@ x andThen y = cond (eqb (x .0) done) y x
 
 -- the profile of a caller that names none, and the profiles that are known: 0 and 1
 abbrev pub defaultProfile : ℕ
-defaultProfile = 0
+defaultProfile = 1
 
 abbrev pub knownProfile : ℕ → Bool
 knownProfile p = ltb p 2

@@ -24,7 +24,7 @@ pub const ROOM_TOO_SMALL: u32 = 4;
 pub const LONGEST: usize = 4294967295;
 
 // The profile of a caller that names none, and how many profiles there are.
-pub const DEFAULT_PROFILE: u32 = 0;
+pub const DEFAULT_PROFILE: u32 = 1;
 
 pub const PROFILES: u32 = 2;
 

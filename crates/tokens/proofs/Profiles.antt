@@ -1,4 +1,4 @@
--- How the lists of the two profiles are related.
+-- How the lists of the two profiles are related, and what a pragma is under the default.
 -- Assumes nothing.
 use Prim.Native.Nat.{ℕ, _+_, _-_, _≤_}
 use native.Mathlib.Omega.{arith}
@@ -16,16 +16,17 @@ use Rattle.unicode.specs.Text.{byteLength, skip}
 use Rattle.unicode.proofs.Text.{chars-nil, chars-first, bytes-chars, ends-bytes, skip-more}
 use Rattle.unicode.proofs.Ascii.{skip-bytes}
 use Rattle.unicode.specs.Ranges.{inTable}
+use Rattle.text.specs.Answer.{defaultProfile}
 use Rattle.ucd.specs.Ucd.{xidStart, xidContinue}
 use Rattle.letters.specs.Chars.{isWhitespace, whitespace}
 use Rattle.lexer.specs.Kinds.{ident, invalidIdent}
 use Rattle.cutters.specs.Records.{Token, total}
 use Rattle.lexer.specs.Cut.{Letters, peek, notLf, agree, pragmaWord, wideEmoji, name, word, advance, nextToken, tokens}
 use Rattle.lexer.specs.Unicode.{unicode}
-use Rattle.lexer.specs.Promises.{tokens3}
+use Rattle.lexer.specs.Promises.{tokens3, tokensOf}
 use Rattle.lexer.proofs.Shapes.{name-part, tokens-nil}
 use Rattle.tokens.specs.Profiles.{bare, bareIn, pragmaLine, Parting}
-use Rattle.lexer.proofs.Places.{tokens-first, next-some}
+use Rattle.lexer.proofs.Places.{tokens-first, next-some, known3}
 use Rattle.tokens.proofs.Agree.{agree-most, agree-all, agree-take, agree-chars}
 
 pragma-agrees : (s : List ℕ) → agree pragmaWord (chars s) ≡ agree pragmaWord s
@@ -110,6 +111,11 @@ module _ (r : List ℕ) where
       let none : byteLength (0x70 ∷ letters) - byteLength (0x70 ∷ letters) ≡ 0 = omega arith in
       rw (advance-p 1 letters, line, none, long)
 
+  -- and then the tokens behind it
+  one-line : (s : List ℕ) → chars s ≡ 0x70 ∷ letters → tokens3 1 s ≡ pragmaLine s ∷ tokens3 1 (drop (pragmaLine s .len) s)
+  unfolding tokens3
+  one-line s e = tokens-first unicode 1 0x70 letters s e ∙ ap (λ (x : Token). x ∷ tokens3 1 (drop (x .len) s)) (one-is s e)
+
 -- ---- the two lists, from the first token on
 record Related (s : List ℕ) : Type 0 where
   same : bareIn s (tokens3 0 s) ≡ false → tokens3 1 s ≡ tokens3 0 s
@@ -157,7 +163,7 @@ step a s ih =
     let r = drop 6 (c ∷ t) in
     here-parting (a ∷ s) (nextToken unicode 0 0x70 (letters r) .0) _ _ (zero-bare r (a ∷ s) (v ∙ e))
     (tokens-first unicode 0 0x70 (letters r) (a ∷ s) (v ∙ e))
-    (tokens-first unicode 1 0x70 (letters r) (a ∷ s) (v ∙ e) ∙ ap (λ (x : Token). x ∷ tokens3 1 (drop (x .len) (a ∷ s))) (one-is r (a ∷ s) (v ∙ e))))
+    (one-line r (a ∷ s) (v ∙ e)))
     (λ n.
     let k = nextToken unicode 0 c t .0 in
     let same : nextToken unicode 1 c t .0 ≡ k = rw (elsewhere unicode c t n) in
@@ -183,3 +189,10 @@ same-lists s = related s .same
 -- and else they agree up to the first that does, and there profile 1 has a Pragma to just before the next LF, or to the end
 pub parting-lists : (s : List ℕ) → bareIn s (tokens3 0 s) ≡ true → Parting s (tokens3 0 s) (tokens3 1 s)
 parting-lists s = related s .parting
+
+-- ---- THE THEOREM: under the default profile what begins with the bytes `pragma` begins with a Pragma, which runs to just before the next
+-- LF or to the end, and behind it come the tokens of what is left
+pub default-pragma : (s : List ℕ) → agree pragmaWord s ≡ length pragmaWord → tokensOf defaultProfile s ≡ pragmaLine s ∷ tokensOf defaultProfile (drop (pragmaLine s .len) s)
+default-pragma s h =
+    let line = one-line (drop 6 (chars s)) s (agree-all pragmaWord (chars s) (pragma-agrees s ∙ h)) in
+    known3 1 s refl ∙ line ∙ ap (λ (l : List Token). pragmaLine s ∷ l) (sym (known3 1 (drop (pragmaLine s .len) s) refl))

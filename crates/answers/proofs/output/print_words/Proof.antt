@@ -5,10 +5,10 @@ use Rattle.answers.proofs.output.print_words.Statement.{statement}
 use Rattle.answers.proofs.output.print_words.Tie as tie
 
 abbrev Inv-loop : tie.InvT-loop
-Inv-loop list n width i₀ i = i ≤ length list
+Inv-loop list n width before between i₀ i = i ≤ length list
 
 abbrev μ-loop : tie.MeasureT-loop
-μ-loop list n width i₀ i = length list - i
+μ-loop list n width before between i₀ i = length list - i
 
 loop-holds : tie.Need-loop-holds Inv-loop μ-loop
 loop-holds c = search needs
@@ -19,17 +19,17 @@ div-if1 c = search needs
 returns : tie.Need-returns Inv-loop μ-loop
 returns c = search needs
 
-mul-print-word : tie.Need-mul-print-word Inv-loop μ-loop
-mul-print-word c = search needs
+mul-print-in : tie.Need-mul-print-in Inv-loop μ-loop
+mul-print-in c = search needs
 
-shared-slice-read-print-word : tie.Need-shared-slice-read-print-word Inv-loop μ-loop
-shared-slice-read-print-word c = search needs
+shared-slice-read-print-in : tie.Need-shared-slice-read-print-in Inv-loop μ-loop
+shared-slice-read-print-in c = search needs
 
-rem-print-word : tie.Need-rem-print-word Inv-loop μ-loop
-rem-print-word c = search needs
+rem-print-in : tie.Need-rem-print-in Inv-loop μ-loop
+rem-print-in c = search needs
 
-print-word-requires : tie.Need-print-word-requires Inv-loop μ-loop
-print-word-requires c κs = search needs
+print-in-requires : tie.Need-print-in-requires Inv-loop μ-loop
+print-in-requires c κs = search needs
 
 add-i : tie.Need-add-i Inv-loop μ-loop
 add-i c = search needs
@@ -52,10 +52,10 @@ print-words-spec =
     loop-holds
     div-if1
     returns
-    mul-print-word
-    shared-slice-read-print-word
-    rem-print-word
-    print-word-requires
+    mul-print-in
+    shared-slice-read-print-in
+    rem-print-in
+    print-in-requires
     add-i
     loop-less
     loop-again

@@ -31,8 +31,8 @@ same-requires c κs = search needs
 returns : tie.Need-returns Inv-loop μ-loop
 returns c = search needs
 
-first-end-requires : tie.Need-first-end-requires Inv-loop μ-loop
-first-end-requires c κs = search needs
+end-at-requires : tie.Need-end-at-requires Inv-loop μ-loop
+end-at-requires c κs = search needs
 
 add-at : tie.Need-add-at Inv-loop μ-loop
 add-at c = search needs
@@ -65,7 +65,7 @@ find-spec =
     first-requires
     same-requires
     returns
-    first-end-requires
+    end-at-requires
     add-at
     add-at-2
     add-i

@@ -1,14 +1,14 @@
 use Prim.Native.Nat.{_≤_, _-_}
 use lib.ListN.{length}
 use borrow.Author.Needs.{needs}
-use Rattle.answers.proofs.words.first_end.Statement.{statement}
-use Rattle.answers.proofs.words.first_end.Tie as tie
+use Rattle.answers.proofs.words.end_at.Statement.{statement}
+use Rattle.answers.proofs.words.end_at.Tie as tie
 
 abbrev Inv-loop : tie.InvT-loop
-Inv-loop words i₀ i = i ≤ length words
+Inv-loop words mark i₀ i = i ≤ length words
 
 abbrev μ-loop : tie.MeasureT-loop
-μ-loop words i₀ i = length words - i
+μ-loop words mark i₀ i = length words - i
 
 loop-holds : tie.Need-loop-holds Inv-loop μ-loop
 loop-holds c = search needs
@@ -31,8 +31,8 @@ loop-again c = search needs
 returns-2 : tie.Need-returns-2 Inv-loop μ-loop
 returns-2 c = search needs
 
-pub first-end-spec : {M : Type 1} → statement M
-first-end-spec =
+pub end-at-spec : {M : Type 1} → statement M
+end-at-spec =
     tie.close
     (tie.spec
     Inv-loop
