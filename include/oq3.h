@@ -60,9 +60,9 @@ enum {
 
 /*
  * Profiles: how the Rust crate oq3_lexer 0.7.0 cuts when it is built for release, and when it is built with debug assertions. They differ in
- * one thing: with debug assertions a word that begins with `pragma` is a Pragma to the end of its line, as if `#pragma` stood there, which
- * is how the language's own documents write it; in release it is an identifier. So lists and keys of one profile are not those of the
- * other: a caller that keeps some from one has to name it.
+ * one thing. With debug assertions a word that begins with `pragma` begins a Pragma, to the end of its line, as `#pragma` does in both: the
+ * language's own documents write pragmas without the pound sign. In release it is a name like others. So the lists and the keys of a text
+ * with such a word are others under the other profile, and a caller that keeps some has to name the profile that they were made under.
  */
 enum {
     OQ3_PROFILE_RELEASE = 0,

@@ -1,17 +1,16 @@
 -- What words ask for, case by case, as `search` takes it; for which of them that is a known profile; and what is answered for the others.
 -- Assumes nothing.
-use Prim.Native.Nat.{ℕ, _≤_}
+use Prim.Native.Nat.{ℕ}
 use native.Mathlib.Omega.{arith}
 use mathlib.Core.Path.{_≡_, refl, ap, sym, _∙_}
-use mathlib.Core.Bool.{Bool, true, false, cond, false≢true}
+use mathlib.Core.Bool.{true, cond, false≢true}
 use mathlib.Core.List.{List, [], _∷_}
 use lib.Dec.{eqb}
 use lib.ListN.{length, getD}
-use borrow.Author.Tests.{eq-eqb, ne-eqb, eqb-true, eqb-false}
+use borrow.Author.Tests.{ne-eqb, eqb-true}
 use Rattle.lists.proofs.Bools.{by-test}
-use Rattle.text.specs.Answer.{Answered, done, unknownSelector, defaultProfile, knownProfile, checkProfile, checkText, checkCut}
 use Rattle.unicode.proofs.Valid.{valid-end}
-use Rattle.listing.specs.Promises.{Listed}
+use Rattle.text.specs.Answer.{Answered, done, unknownSelector, defaultProfile, knownProfile, checkProfile, checkText, checkCut}
 use Rattle.text.proofs.Checks.{not-refused}
 use Rattle.arguments.specs.Arguments.{noProfile, named, asked, Right, none, zero, one}
 
@@ -41,17 +40,17 @@ module _ (w : List ℕ) (e : length w ≡ 1) where
 
 -- ---- all words
 module _ (words : ℕ) (first : List ℕ) {r : ℕ} where
-  pub asked-none : words ≡ 0 → r ≡ defaultProfile → r ≡ asked words first
+  pub no-word : words ≡ 0 → r ≡ defaultProfile → r ≡ asked words first
   unfolding asked
-  asked-none e h = rw e h
+  no-word e h = rw e h
 
-  pub asked-one : words ≡ 1 → r ≡ named first → r ≡ asked words first
+  pub one-word : words ≡ 1 → r ≡ named first → r ≡ asked words first
   unfolding asked
-  asked-one e h = rw e h
+  one-word e h = rw e h
 
-  pub asked-more : (words ≡ 0 → ⊥) → (words ≡ 1 → ⊥) → r ≡ noProfile → r ≡ asked words first
+  pub more-words : (words ≡ 0 → ⊥) → (words ≡ 1 → ⊥) → r ≡ noProfile → r ≡ asked words first
   unfolding asked
-  asked-more h k q = rw (ne-eqb words 0 h, ne-eqb words 1 k) q
+  more-words h k q = rw (ne-eqb words 0 h, ne-eqb words 1 k) q
 
 -- ---- what is answered before there is a text: the check of the empty one says the profile's part, and nothing else
 empty-passes : checkText [] ≡ (done, 0)

@@ -15,8 +15,9 @@ noProfile = 4294967295
 
 -- the one byte 0 names profile 0, the one byte 1 profile 1, and any other word none
 unfoldable pub named : List ℕ → ℕ
+named (c ∷ []) = cond (eqb c 0x30) 0 (cond (eqb c 0x31) 1 noProfile)
 named [] = noProfile
-named (c ∷ cs) = elim cs [ [] ↦ cond (eqb c 0x30) 0 (cond (eqb c 0x31) 1 noProfile) | _ ∷ _ ↦ noProfile ]
+named (_ ∷ _ ∷ _) = noProfile
 
 -- no word asks for the default, one for what it names, and more than one for none, whatever they are
 unfoldable pub asked : (words : ℕ) (first : List ℕ) → ℕ

@@ -1,4 +1,4 @@
-use Rattle.arguments.proofs.Asked.{asked-none, asked-one, asked-more}
+use Rattle.arguments.proofs.Asked.{no-word, one-word, more-words}
 use borrow.Author.Needs.{needs}
 use Rattle.arguments.proofs.profile_asked.Statement.{statement}
 use Rattle.arguments.proofs.profile_asked.Tie as tie
@@ -10,13 +10,13 @@ named-requires : tie.Need-named-requires
 named-requires c κs = search needs
 
 returns : tie.Need-returns
-returns c = search (needs, asked-none)
+returns c = search (needs, no-word)
 
 returns-2 : tie.Need-returns-2
-returns-2 c = search (needs, asked-one)
+returns-2 c = search (needs, one-word)
 
 returns-3 : tie.Need-returns-3
-returns-3 c = search (needs, asked-more)
+returns-3 c = search (needs, more-words)
 
 pub profile-asked-spec : {M : Type 1} → statement M
 profile-asked-spec =
