@@ -1,4 +1,5 @@
--- The ways of `list_asked`, as `search` takes them from what a need knows, and its one outcome.
+-- The ways of `list_asked`, as `search` takes them from what a need knows, and its one outcome; for which words `oqlist` refuses, and for which it
+-- answers as `tokenize`.
 -- Assumes nothing.
 use Prim.Native.Nat.{ℕ, _≤_, _<_}
 use native.Mathlib.Omega.{arith}

@@ -13,17 +13,18 @@ use Rattle.listing.specs.Promises.{answerOf, listed}
 abbrev pub noProfile : ℕ
 noProfile = 4294967295
 
--- the one byte 0 names profile 0, the one byte 1 profile 1, and any other word none
+-- the word `0` names profile 0, the word `1` profile 1, and any other none
 unfoldable pub named : List ℕ → ℕ
 named (c ∷ []) = cond (eqb c 0x30) 0 (cond (eqb c 0x31) 1 noProfile)
 named [] = noProfile
 named (_ ∷ _ ∷ _) = noProfile
 
--- no word asks for the default, one for what it names, and more than one for none, whatever they are
+-- of so many words, `first` being the first of them: without a word the default is asked for, by one word the profile that it names, and by more
+-- than one, whatever they are, none
 unfoldable pub asked : (words : ℕ) (first : List ℕ) → ℕ
 asked words first = cond (eqb words 0) defaultProfile (cond (eqb words 1) (named first) noProfile)
 
--- the words that ask for a profile that is known: there is none, or one, exactly 0 or 1
+-- the words that ask for a profile that is known: there is no word, or one, `0` or `1`
 pub data Right (words : ℕ) (first : List ℕ) : Type 0 where
   none : words ≡ 0 → Right words first
   zero : words ≡ 1 → first ≡ 0x30 ∷ [] → Right words first
