@@ -21,19 +21,19 @@ named-long [] n = refl
 named-long (c ∷ []) n = absurd (n refl)
 named-long (c ∷ d ∷ w) n = refl
 
--- one of a single byte
-named-byte : (w : List ℕ) → length w ≡ 1 → named w ≡ cond (eqb (getD w 0 0) 0x30) 0 (cond (eqb (getD w 0 0) 0x31) 1 noProfile)
+-- one of a single byte, by that byte
+abbrev byByte : ℕ → ℕ
+byByte c = cond (eqb c 0x30) 0 (cond (eqb c 0x31) 1 noProfile)
+
+named-byte : (w : List ℕ) → length w ≡ 1 → named w ≡ byByte (getD w 0 0)
 unfolding named
 named-byte [] e = absurd (omega (arith, e))
 named-byte (c ∷ []) e = refl
 named-byte (c ∷ d ∷ w) e = absurd (omega (arith, e))
 
 module _ (w : List ℕ) (e : length w ≡ 1) where
-  pub named-zero : getD w 0 0 ≡ 0x30 → 0 ≡ named w
-  named-zero h = sym (named-byte w e ∙ rw h)
-
-  pub named-one : getD w 0 0 ≡ 0x31 → 1 ≡ named w
-  named-one h = sym (named-byte w e ∙ rw h)
+  pub named-one : {c r : ℕ} → getD w 0 0 ≡ c → r ≡ byByte c → r ≡ named w
+  named-one h k = k ∙ sym (named-byte w e ∙ ap byByte h)
 
   pub named-other : (getD w 0 0 ≡ 0x30 → ⊥) → (getD w 0 0 ≡ 0x31 → ⊥) → noProfile ≡ named w
   named-other h k = sym (named-byte w e ∙ rw (ne-eqb (getD w 0 0) 0x30 h, ne-eqb (getD w 0 0) 0x31 k))

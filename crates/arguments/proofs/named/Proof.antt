@@ -1,4 +1,4 @@
-use Rattle.arguments.proofs.Asked.{named-long, named-zero, named-one, named-other}
+use Rattle.arguments.proofs.Asked.{named-long, named-one, named-other}
 use borrow.Author.Needs.{needs}
 use Rattle.arguments.proofs.named.Statement.{statement}
 use Rattle.arguments.proofs.named.Tie as tie
@@ -10,7 +10,7 @@ shared-slice-read-match : tie.Need-shared-slice-read-match
 shared-slice-read-match c = search needs
 
 returns-2 : tie.Need-returns-2
-returns-2 c = search (needs, named-zero)
+returns-2 c = search (needs, named-one)
 
 returns-3 : tie.Need-returns-3
 returns-3 c = search (needs, named-one)
