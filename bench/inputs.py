@@ -165,6 +165,19 @@ cjk = [chr(c) for c in range(0x4E00, 0x4F00)]
 write("j-cjk", lambda: "".join(r.choice(cjk) for _ in range(r.randrange(1, 7))) + r.choice([" ", ";"]))
 write("k-emoji", lambda: "".join(chr(r.randrange(0x1F600, 0x1F640)) for _ in range(r.randrange(1, 5))) + " ")
 
+# comments and quoted texts with dashes, dots and quotes of three bytes, which begin with E2 as the direction marks do, and comments of CJK; from a seed
+# of their own
+drawn = random.Random(20262)
+
+
+def dashes():
+    body = "".join(drawn.choice(words) + drawn.choice(["\u2026 ", " \u2014 ", "\u2019 ", " \u201c", "\u201d ", "\u2010", " "]) for _ in range(drawn.randrange(3, 14)))
+    return drawn.choice([f"// {body}\n", f"/* {body} */\n", f'"{body}" '])
+
+
+write("l-dashes", dashes)
+write("m-cjk-comments", lambda: "// " + "".join(drawn.choice(cjk) for _ in range(drawn.randrange(5, 40))) + "\n")
+
 # bodies of literals, each with its mode first in its name: 1 is Str, 4 ByteStr
 bodies = os.path.join(out, "bodies")
 os.makedirs(bodies, exist_ok=True)

@@ -39,8 +39,9 @@ extern "C" {
 /* ---- What comes back ---------------------------------------------------------------------------------------------------------- */
 
 /*
- * `number` says how the call went, and `also` what comes with it. The checks go in the order of their numbers; the first that applies is
- * given, and it is given only then. A refusal, which is any number but 0, leaves the lent memory as it was.
+ * `number` says how the call went, and `also` what comes with it. The checks go in the order in which their numbers stand here, of each function
+ * those that it names; the first that applies is given, and it is given only then. A refusal, which is any number but 0, leaves the lent memory as
+ * it was.
  */
 typedef struct oq3_answer {
     uint32_t number;
@@ -48,10 +49,12 @@ typedef struct oq3_answer {
 } oq3_answer;
 
 enum {
+    /* 7 is for what lists tokens, makes keys or compares: those characters are not seen, and set or end the direction of what is */
     OQ3_DONE = 0,             /* done; also: how many records or key bytes were written, or the function's own value */
     OQ3_UNKNOWN_SELECTOR = 1, /* no such profile, mode or error; also: 0 */
     OQ3_TOO_LONG = 2,         /* the text has more than OQ3_LONGEST bytes; also: 0 */
     OQ3_NOT_UTF8 = 3,         /* the text is not UTF-8; also: the length of its longest well-formed beginning, in bytes */
+    OQ3_DIRECTION_MARK = 7,   /* the text holds one of U+202A to U+202E or U+2066 to U+2069; also: the byte place of the first */
     OQ3_ROOM_TOO_SMALL = 4    /* there is too little room; also: how many records or key bytes are needed */
 };
 
@@ -149,7 +152,7 @@ typedef struct oq3_token {
 enum { OQ3_WORDS = 3, OQ3_ITEM_WORDS = 3 };
 
 /*
- * The tokens of a text: OQ3_WORDS words for each, in order, from list[0] on. `words` is the room. Refuses with 1, 2, 3 and 4.
+ * The tokens of a text: OQ3_WORDS words for each, in order, from list[0] on. `words` is the room. Refuses with 1, 2, 3, 7 and 4.
  *
  * With 0 exactly OQ3_WORDS * also words are written, and those behind them are as they were. A trailing part of a record, where `words` is no
  * multiple of OQ3_WORDS, is never written. `also` is in records, in the refusal too: room for `also` records is OQ3_WORDS * also words.
@@ -180,7 +183,7 @@ oq3_answer oq3_is_ident(const uint8_t *text, size_t text_len);
 
 /*
  * The key of a text: two accepted texts have the same bytes as key, under one profile, exactly when their tokens other than white space,
- * line comments and closed block comments are the same, one by one, in kind, length, suffix start and bytes. Refuses with 1, 2, 3 and 4.
+ * line comments and closed block comments are the same, one by one, in kind, length, suffix start and bytes. Refuses with 1, 2, 3, 7 and 4.
  *
  * With 0 exactly `also` bytes are written, from key[0] on, and those behind them are as they were. A key has at most 11 bytes for each
  * byte of text; where there is room for as many nothing is measured first, which is about twice as fast.
@@ -320,12 +323,18 @@ oq3_answer oq3_is_fatal(uint32_t error);
 /* The profile for a caller with no wish of its own, as the archive has it: OQ3_DEFAULT_PROFILE of the header that it was made with. */
 uint32_t oq3_default_profile(void);
 
-/* The checks that the entries begin with, by themselves: 2 and 3; and before them 1 for the profile. With 0 also is 0. */
+/*
+ * The checks of a text, by themselves. oq3_check_text is what oq3_is_ident and the calls on bodies ask: 2 and 3. oq3_check_cut is what those ask that
+ * list tokens, make keys or compare: 1 for the profile, 2, 3 and 7. With 0 also is 0.
+ */
 oq3_answer oq3_check_text(const uint8_t *text, size_t text_len);
 oq3_answer oq3_check_cut(const uint8_t *text, size_t text_len, uint32_t profile);
 
 /* The length of a text's longest well-formed beginning, in bytes: text_len for UTF-8. */
 size_t oq3_valid_up_to(const uint8_t *text, size_t text_len);
+
+/* How many bytes of a text stand before its first fault, a byte that is not UTF-8 or a character of OQ3_DIRECTION_MARK: text_len where there is none. */
+size_t oq3_clean_up_to(const uint8_t *text, size_t text_len);
 
 /* A character, and how many bytes it takes. */
 typedef struct oq3_char {

@@ -1,10 +1,11 @@
 #!/usr/bin/env python3
 """Compares the program `answers` with the Rust crate on generated texts: task tok under both profiles, and task ident; or, with --listings, the
-task oqlist with no word, which is held to profile 1, with the words 0 and 1, and with one that asks for none; or, with --bodies, the tasks
-unescape in all seven modes, char and byte, on bodies of literals; or, with --digits, the task unescape in modes 1 and 4 on escapes by number,
-with every pair of characters of ASCII and every scalar value as a digit.
+task oqlist with no word, which is held to profile 1, with the words 0 and 1, and with one that asks for none; with --marks, either on texts of
+direction marks and what stands near them; or, with --bodies, the tasks unescape in all seven modes, char and byte, on bodies of literals; or, with
+--digits, the task unescape in modes 1 and 4 on escapes by number, with every pair of characters of ASCII and every scalar value as a digit.
+The Rust knows nothing of direction marks: where it cuts a text that holds one, 7 is wanted, with the place of the first.
 
-    tools/compare.py RELEASE DEBUG ANSWERS [--listings | --bodies | --digits] [--short N] [--random N] [--seed S] [--programs DIR]
+    tools/compare.py RELEASE DEBUG ANSWERS [[--listings] [--marks] | --bodies | --digits] [--short N] [--random N] [--seed S] [--programs DIR]
 
 RELEASE and DEBUG are the program that answers cases with the crate, built without and with debug assertions; ANSWERS is
 target/bin/answers. Every text of at most N pieces of the alphabet is compared (--short), then random texts of several sorts,
@@ -30,6 +31,13 @@ WORDS = ALPHABET + [s.encode() for s in (
     "\u2028", "\u2029", "\u200E", "\u00A0", "\u3000", "☕", "👨\u200D👩", "#️⃣", "1️⃣", "\uFEFF", "\U0010FFFF", "\U000E0001", "ª", "·",
     "℘", "ﬁ", "中", ";", ",", "(", ")", "{", "}", "[", "]", "~", "?", ":", "=", "!", "<", ">", "-", "&", "|", "+", "^", "%", "`", "\x7f", "\x01",
 )]
+
+# The direction marks; with the characters beside them and pieces of their bytes; and what stands around them, also in blocks of 32 bytes.
+MARKS = "".join(map(chr, (*range(0x202A, 0x202F), *range(0x2066, 0x206A))))
+
+MARK_ALPHABET = [c.encode() for c in MARKS] + [s.encode() for s in ("\u2029", "\u202F", "\u2065", "\u206A", "a", "/", "*", "\n", "\"", "é", "…", "中", "\U0001F600")] + [b"\xe2", b"\x80", b"\x81", b"\xae", b"\xa6"]
+
+MARK_WORDS = MARK_ALPHABET + [s.encode() for s in ("//", "/*", "*/", "\"01\"", "1.5ns", "$0", "#pragma ", "pragma ", "@x ", " ", ";", "…" * 11, "中" * 11, "é" * 16, "\U0001F600" * 8, "a" * 31, " " * 32, "x = \"…\"; // “—” ")]
 
 # Pieces at which a rule of bodies turns, and pieces of which longer bodies are made.
 BODY_ALPHABET = [s.encode() for s in "\\nrtxu{}07Ff_'\"\n\r \té\u00A0\u3000\0"]
@@ -83,6 +91,20 @@ def texts(rng, count, programs):
             yield damaged(rng, p[i:i + rng.randint(1, 300)])
         else:
             yield bytes(rng.choice(b"\"01_\n/*#e.x$@ ") for _ in range(rng.randint(1, 16)))
+
+
+def marked(rng, count):
+    for _ in range(count):
+        sort = rng.randrange(4)
+        text = b"".join(rng.choice(MARK_WORDS) for _ in range(rng.randint(1, 8)))
+        if sort == 0:
+            yield text
+        elif sort == 1:
+            yield damaged(rng, text)
+        else:
+            front = rng.choice((b"a", "é".encode(), "…".encode(), "中".encode(), "\U0001F600".encode())) * rng.randrange(40) + b" " * rng.randrange(4)
+            mark = rng.choice(MARK_ALPHABET if sort == 2 else MARK_ALPHABET[:13])
+            yield front + mark + rng.choice((b"", b"x", b" " * 33, text))
 
 
 def bodies(rng, count):
@@ -157,11 +179,22 @@ def listing(text, answer):
     return b" / ".join([b"tokens " + also] + [record.replace(b",", b" ") for record in records])
 
 
+def barred(text, answer):
+    """The answer of the Rust, or 7 for a text that it cuts and that holds a direction mark."""
+    if not answer.startswith(b"0 "):
+        return answer
+    chars = text.decode()
+    place = next((i for i, c in enumerate(chars) if c in MARKS), None)
+    return answer if place is None else b"7 %d" % len(chars[:place].encode())
+
+
 def wanted(options, task, oracle, batch):
     """What the answers are held to."""
     if oracle is None:
         return [b"refused 1 0"] * len(batch)
     said = answers(oracle, task, batch)
+    if task.startswith(b"tok"):
+        said = [barred(t, a) for t, a in zip(batch, said)]
     return [listing(t, a) for t, a in zip(batch, said)] if options.listings else said
 
 
@@ -196,17 +229,22 @@ def main():
     group.add_argument("--listings", action="store_true")
     group.add_argument("--bodies", action="store_true")
     group.add_argument("--digits", action="store_true")
+    parser.add_argument("--marks", action="store_true")
     parser.add_argument("--short", type=int, default=3)
     parser.add_argument("--random", type=int, default=500000)
     parser.add_argument("--seed", type=int, default=1)
     parser.add_argument("--programs")
     options = parser.parse_args()
+    if options.marks and (options.bodies or options.digits):
+        parser.error("--marks goes with texts, not with bodies")
     rng = random.Random(options.seed)
     programs = [p.read_bytes() for p in sorted(pathlib.Path(options.programs).iterdir())] if options.programs else []
     total, wrong = 0, []
     whole = [p for p in programs if len(p) <= 32000]
     if options.digits:
         stream = digits()
+    elif options.marks:
+        stream = itertools.chain(short(MARK_ALPHABET, options.short), marked(rng, options.random))
     elif options.bodies:
         stream = itertools.chain(short(BODY_ALPHABET, options.short), bodies(rng, options.random))
     else:

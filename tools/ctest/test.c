@@ -200,6 +200,70 @@ static void refusals(void) {
     CHECK(is(oq3_check_cut(bad, 4, 2), 1, 0));
 }
 
+/* ---- direction marks: each call that cuts tokens or makes keys refuses them with 7, behind 3 and before 4, and no other call does */
+static bool is_mark(uint32_t c) {
+    return (0x202A <= c && c <= 0x202E) || (0x2066 <= c && c <= 0x2069);
+}
+
+/* the bytes before the first fault, character by character */
+static size_t clean_bytes(const uint8_t *text, size_t n) {
+    size_t at = 0;
+    while (at < n) {
+        oq3_char c = oq3_decode(text, n, at);
+        if (c.code >= OQ3_NO_CHAR || is_mark(c.code))
+            break;
+        at += c.wide;
+    }
+    return at;
+}
+
+/* puts so many copies of a character behind the first n bytes of a text */
+static size_t fill(uint8_t *text, size_t n, const char *c, size_t copies) {
+    size_t wide = strlen(c);
+    for (; copies > 0; copies--, n += wide)
+        memcpy(text + n, c, wide);
+    return n;
+}
+
+/* a character of three bytes with so many copies of another before it and behind it */
+static void marked(uint32_t c, const char *other, size_t before, size_t behind) {
+    static uint8_t text[1024];
+    size_t at = fill(text, 0, other, before), n;
+    bool mark = is_mark(c);
+    oq3_comparison x;
+    text[at] = (uint8_t)(0xE0 | c >> 12), text[at + 1] = (uint8_t)(0x80 | (c >> 6 & 0x3F)), text[at + 2] = (uint8_t)(0x80 | (c & 0x3F));
+    n = fill(text, at + 3, other, behind);
+    CHECK(oq3_clean_up_to(text, n) == (mark ? at : n) && oq3_valid_up_to(text, n) == n);
+    CHECK(is(oq3_check_text(text, n), 0, 0) && is(oq3_check_cut(text, n, 0), mark ? OQ3_DIRECTION_MARK : 0, mark ? at : 0));
+    CHECK(oq3_is_ident(text, n).number == 0 && is(oq3_unescape_literal(text, n, OQ3_MODE_STR, NULL, 0), 4, before + 1 + behind));
+    text[n] = 0xFF;
+    CHECK(is(oq3_check_cut(text, n + 1, 0), 3, n) && is(oq3_tokenize(text, n + 1, 0, NULL, 0), 3, n) && oq3_clean_up_to(text, n + 1) == (mark ? at : n));
+    if (!mark)
+        return;
+    fresh();
+    CHECK(is(oq3_tokenize(text, n, 0, NULL, 0), 7, at) && is(oq3_tokenize(text, n, 1, list, WORDS), 7, at));
+    CHECK(is(oq3_tokenize_rows(text, n, 1, NULL, 0), 7, at) && is(oq3_tokenize_rows(text, n, 0, (oq3_token *)list, WORDS / OQ3_WORDS), 7, at));
+    CHECK(is(oq3_renewal_key(text, n, 0, NULL, 0), 7, at) && is(oq3_renewal_key(text, n, 1, key, KEY), 7, at));
+    CHECK(is(oq3_tokenize(text, n, 2, list, WORDS), 1, 0) && is(oq3_renewal_key(text, n, 2, key, KEY), 1, 0));
+    CHECK(clean(0, 0));
+    x = oq3_compare(text, n, text, n, 0);
+    CHECK(x.verdict == OQ3_OLD_REFUSED && is(x.refusal, 7, at) && x.agreed == 0);
+    x = oq3_compare(text, 0, text, n, 1);
+    CHECK(x.verdict == OQ3_NEW_REFUSED && is(x.refusal, 7, at) && x.agreed == 0);
+}
+
+/* the nine and the characters beside them, at every place of blocks of characters of every width */
+static void marks(void) {
+    static const char *const others[] = {" ", "\xC3\xA9", "\xE2\x80\xA6", "\xE4\xB8\xAD", "\xF0\x9F\x98\x80"};
+    size_t i, before, behind;
+    uint32_t c;
+    for (c = 0x2029; c <= 0x206A; c = c == 0x202F ? 0x2065 : c + 1)
+        for (i = 0; i < sizeof others / sizeof *others; i++)
+            for (before = 0; before < 70; before++)
+                for (behind = 0; behind < 70; behind += 34)
+                    marked(c, others[i], before, behind);
+}
+
 /* the empty text, with no memory behind it */
 static void nothing(void) {
     fresh();
@@ -216,14 +280,14 @@ static void nothing(void) {
     CHECK(is(oq3_unescape_char(NULL, 0), 0, OUT(OQ3_ERROR_ZERO_CHARS)));
     CHECK(is(oq3_unescape_byte(NULL, 0), 0, OUT(OQ3_ERROR_ZERO_CHARS)));
     CHECK(is(oq3_check_text(NULL, 0), 0, 0) && is(oq3_check_cut(NULL, 0, 1), 0, 0) && is(oq3_check_cut(NULL, 0, 2), 1, 0));
-    CHECK(oq3_valid_up_to(NULL, 0) == 0);
+    CHECK(oq3_valid_up_to(NULL, 0) == 0 && oq3_clean_up_to(NULL, 0) == 0);
     CHECK(oq3_decode(NULL, 0, 0).wide == 0 && oq3_decode(NULL, 0, SIZE_MAX).code == 0);
 }
 
-/* one byte more than the longest text: memory that is reserved and never touched */
+/* one byte more than the longest text: memory that is reserved, of which little is touched */
 static void too_long(void) {
     size_t more = (size_t)OQ3_LONGEST + 1;
-    void *at = mmap(NULL, more, 1 /* PROT_READ */, 0x4022 /* MAP_PRIVATE | MAP_ANONYMOUS | MAP_NORESERVE */, -1, 0);
+    void *at = mmap(NULL, more, 3 /* PROT_READ | PROT_WRITE */, 0x4022 /* MAP_PRIVATE | MAP_ANONYMOUS | MAP_NORESERVE */, -1, 0);
     const uint8_t *text = (const uint8_t *)at;
     oq3_comparison c;
     if (at == (void *)-1) {
@@ -248,6 +312,10 @@ static void too_long(void) {
     CHECK(c.verdict == OQ3_NEW_REFUSED && is(c.refusal, 2, 0) && c.agreed == 0);
     CHECK(oq3_place_of(text, more, 3).line == 1 && oq3_place_of(text, more, 3).column == 4);
     CHECK(oq3_decode(text, more, more - 1).code == 0 && oq3_decode(text, more, more - 1).wide == 1 && oq3_decode(text, more, more).wide == 0);
+    /* a direction mark is told behind it */
+    memcpy(at, "\xE2\x80\xAE", 3);
+    CHECK(is(oq3_tokenize(text, more, 0, list, 0), 2, 0) && is(oq3_renewal_key(text, more, 1, key, KEY), 2, 0) && is(oq3_check_cut(text, more, 0), 2, 0));
+    CHECK(oq3_clean_up_to(text, more) == 0);
 }
 
 static void keys(void) {
@@ -460,6 +528,8 @@ static void singles(void) {
     CHECK(is(oq3_is_fatal(0), 1, 0) && is(oq3_is_fatal(23), 1, 0));
     CHECK(is(oq3_check_text(BYTES("\0q"), 2), 0, 0) && is(oq3_check_cut(BYTES("\0q"), 2, OQ3_PROFILE_DEBUG), 0, 0));
     CHECK(oq3_valid_up_to(BYTES("a\xCE\xB8z\xCE"), 5) == 4 && oq3_valid_up_to(BYTES("abc"), 3) == 3);
+    CHECK(oq3_clean_up_to(BYTES("a\xCE\xB8z\xCE"), 5) == 4 && oq3_clean_up_to(BYTES("abc"), 3) == 3);
+    CHECK(oq3_clean_up_to(BYTES("a\xE2\x80\xAE\xFF"), 5) == 1 && oq3_valid_up_to(BYTES("a\xE2\x80\xAE\xFF"), 5) == 4);
     {
         oq3_char good = oq3_decode(BYTES("a\xCE\xB8"), 3, 1), bad = oq3_decode(BYTES("a\xCE\xB8"), 3, 2);
         CHECK(good.code == 0x3B8 && good.wide == 2 && bad.code == OQ3_NO_CHAR + 0xB8 && bad.wide == 1);
@@ -520,7 +590,7 @@ static void take_others(const uint8_t *text, size_t n, uint32_t selector, size_t
     oq3_unescape_literal(text, n, selector, list, OQ3_ITEM_WORDS * room);
     oq3_unescape_part(text, n, 1, n, selector, list, OQ3_ITEM_WORDS * room);
     oq3_unescape_char(text, n), oq3_unescape_byte(text, n), oq3_is_ident(text, n);
-    oq3_check_text(text, n), oq3_check_cut(text, n, selector), oq3_valid_up_to(text, n), oq3_place_of(text, n, n);
+    oq3_check_text(text, n), oq3_check_cut(text, n, selector), oq3_valid_up_to(text, n), oq3_clean_up_to(text, n), oq3_place_of(text, n, n);
     for (at = 0; at < n; at += oq3_decode(text, n, at).wide) {
         uint32_t c = oq3_decode(text, n, at).code;
         oq3_is_whitespace(c), oq3_is_id_start(c), oq3_is_id_continue(c), oq3_byte_from_char(c);
@@ -874,6 +944,15 @@ static bool keying(void) {
         check(found(c, model(text, text_len, other, n, profile)), line, __LINE__);
         check(a.number != 0 ? c.verdict == OQ3_OLD_REFUSED : b.number != 0 ? c.verdict == OQ3_NEW_REFUSED : c.verdict == (strcmp(wanted, "same") == 0 ? OQ3_SAME : OQ3_DIFFERENT), line, __LINE__);
         check(all_placed(text, text_len) && all_placed(other, n), line, __LINE__);
+    } else if (task("compare")) {
+        oq3_comparison c;
+        profile = (uint32_t)number();
+        text_len = hex(text);
+        n = hex(other);
+        c = oq3_compare(text, text_len, other, n, profile);
+        say(c.verdict, ""), say(c.refusal.number, " "), say(c.refusal.also, " "), say(c.agreed, " ");
+        say(c.in_old.kind, " "), say(c.in_old.start, ","), say(c.in_old.length, ",");
+        say(c.in_new.kind, " "), say(c.in_new.start, ","), say(c.in_new.length, ",");
     } else
         return false;
     return true;
@@ -915,6 +994,7 @@ static bool reading(void) {
         for (; a.number == 0 && at < n; count++)
             at += oq3_decode(text, n, at).wide;
         check(oq3_valid_up_to(text, n) == (a.number == 0 ? n : a.also), line, __LINE__);
+        check(oq3_clean_up_to(text, n) == clean_bytes(text, n), line, __LINE__);
         check(all_read(text, n) && all_placed(text, n), line, __LINE__);
         say(a.number, "");
         say(a.number == 0 ? count : a.also, " ");
@@ -951,6 +1031,7 @@ static void vectors(void) {
 int main(void) {
     lists();
     refusals();
+    marks();
     nothing();
     too_long();
     keys();

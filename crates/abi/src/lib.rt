@@ -4,6 +4,7 @@ ghost use mathlib.Core.Path.{_≡_};
 ghost use mathlib.Core.Bool.{true, false};
 ghost use Prim.Native.Nat.{_%_};
 ghost use Rattle.unicode.specs.Utf8.{validUpTo};
+ghost use Rattle.unicode.specs.Direction.{cleanUpTo};
 ghost use Rattle.unicode.specs.Text.{Decoded};
 ghost use Rattle.ucd.specs.Properties.{isXidStart, isXidContinue, isEmoji, isWhiteSpace};
 ghost use Rattle.text.specs.Answer.{Answered, defaultProfile, checkText, checkCut};
@@ -32,6 +33,7 @@ use text::default_profile;
 use unescape::unescape_literal;
 use unescape::unescape_part;
 use unicode::utf8::Char;
+use unicode::utf8::clean_up_to;
 use unicode::utf8::decode;
 use unicode::utf8::valid_up_to;
 
@@ -212,6 +214,13 @@ pub extern "C" fn oq3_valid_up_to(text: &[u8]) -> usize
     ensures { λ r. ⌜ r ≡ validUpTo (now (text .entry)) ⌝ }
 {
     valid_up_to(text)
+}
+
+#[no_mangle]
+pub extern "C" fn oq3_clean_up_to(text: &[u8]) -> usize
+    ensures { λ r. ⌜ r ≡ cleanUpTo (now (text .entry)) ⌝ }
+{
+    clean_up_to(text)
 }
 
 #[no_mangle]

@@ -1,4 +1,5 @@
 // Answers the cases on standard input, one a line: prints each line again, with ` = ` and its answer behind it.
+mod comparisons;
 mod keys;
 mod lines;
 mod listings;

@@ -4,7 +4,8 @@
 //     tok PROFILE HEX, unescape MODE HEX, key PROFILE HEX
 //     tokroom PROFILE WORDS HEX, itemroom MODE WORDS HEX, keyroom PROFILE BYTES HEX, rowroom PROFILE RECORDS HEX
 //     body PROFILE INDEX MODE HEX, pair PROFILE HEX HEX
-//     oqlist ARGUMENTS HEX
+//     oqlist ARGUMENTS HEX, compare PROFILE HEX HEX
+use crate::comparisons;
 use crate::keys;
 use crate::listings;
 use crate::numbers;
@@ -53,10 +54,12 @@ const PAIR: usize = 16;
 
 const OQLIST: usize = 17;
 
-const UNKNOWN: usize = 18;
+const COMPARE: usize = 18;
+
+const UNKNOWN: usize = 19;
 
 // The task of a line that is too long.
-const TOO_LONG: usize = 19;
+const TOO_LONG: usize = 20;
 
 fn task_of(line: &[u8], long: bool) -> usize {
     if long {
@@ -64,7 +67,7 @@ fn task_of(line: &[u8], long: bool) -> usize {
     }
     words::find(
         words::first(line),
-        b"cp lowbyte mode fatal utf8 ident char byte tok unescape key tokroom itemroom keyroom rowroom body pair oqlist",
+        b"cp lowbyte mode fatal utf8 ident char byte tok unescape key tokroom itemroom keyroom rowroom body pair oqlist compare",
     )
 }
 
@@ -148,6 +151,7 @@ fn answer(task: usize, arguments: &[u8]) {
     match task {
         PAIR => keys::pair(arguments),
         OQLIST => listings::answer(arguments),
+        COMPARE => comparisons::answer(arguments),
         UNKNOWN => print(b"unknown"),
         TOO_LONG => refuse(),
         _ => read(task, arguments),

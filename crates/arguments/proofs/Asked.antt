@@ -8,9 +8,12 @@ use mathlib.Core.List.{List, [], _∷_}
 use lib.Dec.{eqb}
 use lib.ListN.{length, getD}
 use borrow.Author.Tests.{ne-eqb, eqb-true}
+use Rattle.lists.specs.All.{all}
 use Rattle.lists.proofs.Bools.{by-test}
-use Rattle.unicode.proofs.Valid.{valid-end}
-use Rattle.text.specs.Answer.{Answered, done, unknownSelector, defaultProfile, knownProfile, checkProfile, checkText, checkCut}
+use Rattle.unicode.specs.Direction.{unmarked}
+use Rattle.unicode.proofs.Text.{chars-nil}
+use Rattle.unicode.proofs.Valid.{valid-nil}
+use Rattle.text.specs.Answer.{Answered, done, unknownSelector, defaultProfile, knownProfile, checkProfile, checkText, checkMarks, checkCut}
 use Rattle.text.proofs.Checks.{not-refused}
 use Rattle.arguments.specs.Arguments.{noProfile, named, asked, Right, none, zero, one}
 
@@ -54,11 +57,15 @@ module _ (words : ℕ) (first : List ℕ) {r : ℕ} where
 
 -- ---- what is answered before there is a text: the check of the empty one says the profile's part, and nothing else
 empty-passes : checkText [] ≡ (done, 0)
-empty-passes = not-refused [] (record { short = omega arith; good = valid-end [] 0 (omega arith) })
+empty-passes = not-refused [] (record { short = omega arith; good = valid-nil })
+
+empty-plain : unmarked [] ≡ true
+unfolding unmarked all
+empty-plain = rw chars-nil
 
 check-empty : (p : ℕ) → checkCut [] p ≡ checkProfile p
-unfolding checkCut
-check-empty p = rw empty-passes (by-test (knownProfile p) (λ e. rw e) (λ e. rw e))
+unfolding checkCut checkMarks
+check-empty p = rw (empty-passes, empty-plain) (by-test (knownProfile p) (λ e. rw e) (λ e. rw e))
 
 pub asked-checked : (words : ℕ) (first : List ℕ) {p n a : ℕ} → p ≡ asked words first → Answered (checkCut [] p) n a → Answered (checkProfile (asked words first)) n a
 asked-checked words first e h = rw (sym (check-empty (asked words first)), sym e) h

@@ -10,8 +10,10 @@ use lib.Dec.{eqb}
 use lib.ListN.{length}
 use borrow.Author.Tests.{lt-ltb, le-ltb, ne-eqb}
 use Rattle.lists.proofs.Bools.{by-test}
-use Rattle.text.specs.Answer.{Answered, done, unknownSelector, tooLong, knownProfile, checkProfile}
+use Rattle.unicode.specs.Direction.{unmarkedUpTo}
+use Rattle.text.specs.Answer.{Answered, done, unknownSelector, tooLong, directionMark, knownProfile, checkProfile, CutMarked}
 use Rattle.text.proofs.Checks.{answered-unique}
+use Rattle.text.proofs.Marks.{marked-refused}
 use Rattle.listing.specs.Promises.{Listed, answerOf, listed}
 use Rattle.arguments.specs.Arguments.{most, asked, Right, askedAnswer, askedList, ListedAsked}
 use Rattle.arguments.proofs.Asked.{others-refused, right-known}
@@ -75,3 +77,8 @@ module _ (words : ℕ) (first s list : List ℕ) (r : Right words first) (l : le
 
   pub right-list : askedList words first s list ≡ listed s (asked words first) list
   right-list = known-list words first s list (right-known words first r) l
+
+  -- a text with a direction mark is refused with 7, and the list is left as it was
+  pub right-marked : CutMarked s (asked words first) → (askedAnswer words first s (length list) ≡ (directionMark, unmarkedUpTo s)) × (askedList words first s list ≡ list)
+  unfolding answerOf listed
+  right-marked m = let e = marked-refused m in (right-answer ∙ rw e, right-list ∙ rw e)

@@ -13,10 +13,12 @@ use Rattle.lists.proofs.Bools.{by-test}
 use Rattle.lists.proofs.Put.{sets-append}
 use Rattle.lists.proofs.Store.{stored-front}
 use Rattle.unicode.proofs.Text.{point-at}
-use Rattle.text.specs.Answer.{Answered, done, longest, checkCut}
+use Rattle.unicode.specs.Direction.{unmarkedUpTo}
+use Rattle.text.specs.Answer.{Answered, done, directionMark, longest, checkCut, CutMarked}
 use Rattle.text.specs.Steps.{Entered}
 use Rattle.text.proofs.Room as room
 use Rattle.text.proofs.Checks.{cut-passed}
+use Rattle.text.proofs.Marks.{marked-refused}
 use Rattle.cutters.specs.Records.{Token, total, recordWords, wordsOf, flatFrom}
 use Rattle.cutters.proofs.Records.{length-words, length-flat}
 use Rattle.lexer.specs.Cut.{Letters}
@@ -224,3 +226,10 @@ module _ {u : Letters} {profile : ℕ} {s : List ℕ} {at kind suffixAt end : �
 
   pub one-end : (at ≤ end) × (end ≤ max at (length s))
   one-end = (omega (arith, a .end-is), omega (arith, a .end-is, one-within u profile s at .1))
+
+-- ---- A TEXT WITH A DIRECTION MARK is refused with 7, in whatever room, and the list is left as it was
+pub listed-marked : {s list list′ : List ℕ} {profile number also : ℕ} → CutMarked s profile → Listed s profile list number also list′ → (number ≡ directionMark) × (also ≡ unmarkedUpTo s) × (list′ ≡ list)
+unfolding answerOf listed
+listed-marked m l =
+    let e = marked-refused m in
+    (rw e at (l .answer .number-is), rw e at (l .answer .also-is), rw e at (l .words))

@@ -3,7 +3,7 @@
 use Prim.Native.Nat.{ℕ, _+_, _≤_, _<_}
 use native.Mathlib.Omega.{arith}
 use mathlib.Core.Path.{_≡_, refl, ap, ap₂, sym, _∙_}
-use mathlib.Core.Bool.{true, false, not, false≢true}
+use mathlib.Core.Bool.{Bool, true, false, not, false≢true}
 use mathlib.Core.List.{List, [], _∷_, _++_, append-assoc}
 use lib.Dec.{eqb}
 use lib.ListN.{length, take, drop, length-append, length-take, length-drop}
@@ -15,7 +15,7 @@ use Rattle.unicode.specs.Ranges.{inTable}
 use Rattle.ucd.specs.Ucd.{xidStart, xidContinue}
 use Rattle.unicode.specs.Utf8.{chars, isScalar, encode, encodeAll, WellFormed}
 use Rattle.unicode.specs.Text.{byteLength}
-use Rattle.unicode.proofs.Valid.{encoded-well-formed, well-formed-encoded, encode-append, encode-bytes, read-all}
+use Rattle.unicode.proofs.Valid.{well-formed-encoded, encode-append, encode-bytes, read-all}
 use Rattle.letters.specs.Chars.{isWhitespace, whitespace}
 use Rattle.cutters.specs.Records.{Token, total}
 use Rattle.lexer.specs.Cut.{Letters, advance, nextToken, tokens}
@@ -25,7 +25,7 @@ use Rattle.tokens.specs.Tiling.{Formed}
 use Rattle.tokens.proofs.Tiling.{tiles}
 use Rattle.locality.specs.Phases.{Usual}
 use Rattle.tokens.specs.Members.{isCounted, members3}
-use Rattle.locality.specs.Newline.{noneCount, Run, withNewline}
+use Rattle.locality.specs.Newline.{noneCount, Run, MadeOf, withNewline}
 use Rattle.locality.proofs.Phases.{ends}
 use Rattle.locality.proofs.Newline.{NoUnit}
 use Rattle.locality.proofs.Counted.{others-count}
@@ -33,7 +33,7 @@ use Rattle.locality.proofs.Cuts.{Item, counted, texts, toks, counted-jo
 use Rattle.locality.proofs.White.{white-isnt}
 use Rattle.locality.proofs.Between.{newline}
 use Rattle.lists.proofs.All.{all-append, all-join}
-use Rattle.locality.proofs.Written.{written, counted-of}
+use Rattle.locality.proofs.Written.{written, counted-of, made-of}
 
 -- ---- the letters of Unicode are usual
 pub unicode-usual : Usual unicode
@@ -101,17 +101,20 @@ new-bytes x y r from to h e f =
     let q : drop to (encodeAll (x ++ (y ++ r))) ≡ encodeAll r = ap (drop to) w ∙ drop-at (encodeAll x ++ encodeAll y) (encodeAll r) to n in
     ap₂ (λ (a b : List ℕ). a ++ 0x0A ∷ b) p q ∙ sym (encode-append x (0x0A ∷ r))
 
--- the new characters are scalar values
-new-scalars : (x y r : List ℕ) → all isScalar (x ++ (y ++ r)) ≡ true → all isScalar (x ++ 0x0A ∷ r) ≡ true
+-- the new characters are old ones and LF
+new-each : (p : ℕ → Bool) (x y r : List ℕ) → all p (0x0A ∷ []) ≡ true → all p (x ++ (y ++ r)) ≡ true → all p (x ++ 0x0A ∷ r) ≡ true
+new-each p x y r q h =
+    let a = all-append p x (y ++ r) h in
+    all-join p x (0x0A ∷ r) (a .0) (all-join p (0x0A ∷ []) r q (all-append p y r (a .1) .1))
+
+pub lf-scalar : all isScalar (0x0A ∷ []) ≡ true
 unfolding all isScalar
-new-scalars x y r h =
-    let a = all-append isScalar x (y ++ r) h in
-    all-join isScalar x (0x0A ∷ r) (a .0) (all-append isScalar y r (a .1) .1)
+lf-scalar = refl
 
 module _ (profile : ℕ) where
   clause-bytes : {i w : List Item} {l m r : List ℕ} (from to : ℕ) → Cuts unicode profile i l m → Cuts unicode profile w m r → 1 ≤ length (toks w) →
       noneCount (toks w) ≡ true → all isScalar l ≡ true → from ≡ total (toks i) → to ≡ total (toks i) + total (toks w) →
-      WellFormed (withNewline (encodeAll l) from to) × (members3 profile (withNewline (encodeAll l) from to) ≡ members3 profile (encodeAll l))
+      MadeOf (0x0A ∷ []) (encodeAll l) (withNewline (encodeAll l) from to) × (members3 profile (withNewline (encodeAll l) from to) ≡ members3 profile (encodeAll l))
   clause-bytes {i} {w} {l} {m} {r} from to a b n h v e f =
       let j = whole unicode profile r in
       let o = newline-chars unicode unicode-usual profile a b n h (j .cuts) in
@@ -120,14 +123,15 @@ module _ (profile : ℕ) where
       let z : withNewline (encodeAll l) from to ≡ encodeAll (texts i ++ 0x0A ∷ r) =
       ap (λ (y : List ℕ). withNewline (encodeAll y) from to) t
       ∙ new-bytes (texts i) (texts w) r from to g (omega (arith, total-bytes unicode profile a)) (omega (arith, total-bytes unicode profile a, total-bytes unicode profile b)) in
-      let k = new-scalars (texts i) (texts w) r g in
+      let d = made-of (0x0A ∷ []) l (texts i ++ 0x0A ∷ r) lf-scalar v (λ p q o. new-each p (texts i) (texts w) r q (ap (all p) (sym t) ∙ o)) in
+      let k = new-each isScalar (texts i) (texts w) r lf-scalar g in
       let old = counted-of profile (cuts-join unicode profile a (cuts-join unicode profile b (j .cuts))) v in
       let new = counted-of profile (o .cuts) k in
-      (rw z (encoded-well-formed (texts i ++ 0x0A ∷ r) k), rw z (new ∙ ap written (o .same ∙ sym (counted-join i (w ++ j .items))) ∙ sym old))
+      (rw z d, rw z (new ∙ ap written (o .same ∙ sym (counted-join i (w ++ j .items))) ∙ sym old))
 
   -- THE NEWLINE CLAUSE: one newline in place of any unbroken run of one or more uncounted tokens leaves the counted tokens as they are,
-  -- one by one, with kind, length, suffix start and bytes; and the new text is well-formed as the old one is
-  pub newline-clause : {s : List ℕ} {from to : ℕ} → WellFormed s → Run (tokens3 profile) s from to → WellFormed (withNewline s from to) × (members3 profile (withNewline s from to) ≡ members3 profile s)
+  -- one by one, with kind, length, suffix start and bytes; and the new text is well-formed as the old one is, of its characters and LF
+  pub newline-clause : {s : List ℕ} {from to : ℕ} → WellFormed s → Run (tokens3 profile) s from to → MadeOf (0x0A ∷ []) s (withNewline s from to) × (members3 profile (withNewline s from to) ≡ members3 profile s)
   unfolding tokens3
   newline-clause {s} {from} {to} f r =
       let e = well-formed-encoded s f in

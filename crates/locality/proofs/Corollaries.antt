@@ -4,7 +4,7 @@
 use Prim.Native.Nat.{ℕ, _+_, _≤_, _<_}
 use native.Mathlib.Omega.{arith}
 use mathlib.Core.Path.{_≡_, refl, ap, ap₂, sym, subst, _∙_}
-use mathlib.Core.Bool.{true, false, _||_, false≢true}
+use mathlib.Core.Bool.{Bool, true, false, _||_, false≢true}
 use mathlib.Core.List.{List, [], _∷_, _++_, append-assoc, append-nil, tail}
 use mathlib.Core.Logic.{inl, inr}
 use lib.Dec.{eqb}
@@ -13,10 +13,10 @@ use lib.Seq.{take-at, drop-at}
 use borrow.Author.Tests.{eqb-true}
 use Rattle.lists.specs.All.{all}
 use Rattle.lists.proofs.Bools.{by-test, both}
-use Rattle.unicode.specs.Utf8.{chars, width, isScalar, encode, encodeAll, WellFormed}
+use Rattle.unicode.specs.Utf8.{chars, width, isScalar, encode, encodeAll, WellFormed, Encoded}
 use Rattle.unicode.specs.Text.{byteLength}
 use Rattle.unicode.proofs.Text.{bytes-append}
-use Rattle.unicode.proofs.Valid.{width-some, encoded-well-formed, well-formed-encoded, encode-append, encode-bytes, read-all}
+use Rattle.unicode.proofs.Valid.{width-some, well-formed-encoded, encode-append, encode-bytes, read-all}
 use Rattle.unicode.proofs.Ascii.{chars-ascii}
 use Rattle.letters.specs.Chars.{isWhitespace}
 use Rattle.lexer.specs.Kinds.{blockComment, whitespaceKind}
@@ -26,14 +26,14 @@ use Rattle.lexer.specs.Unicode.{unicode}
 use Rattle.lexer.specs.Promises.{tokens3}
 use Rattle.locality.specs.Phases.{Seen, bits, broken, other, seenKind}
 use Rattle.tokens.specs.Members.{isCounted, members3}
-use Rattle.locality.specs.Newline.{noneCount, Run, withNewline}
+use Rattle.locality.specs.Newline.{noneCount, Run, MadeOf, withNewline}
 use Rattle.locality.specs.Changes.{lastIs, isLine, isOpen, isKept, LfIn, EndsAt, inserted}
 use Rattle.locality.proofs.Cuts.{Item, counted, texts, toks, counted-join, Cuts, more, cuts-text, cuts-join, first-cut, split, whole, cut-length, total-bytes, Over}
 use Rattle.locality.proofs.White.{white-uncounted, White, white-none, white-more, all-white, next-white, kind-white}
 use Rattle.locality.proofs.Between.{Lasts, Closes, newline-end}
 use Rattle.lists.proofs.All.{all-append, all-join}
-use Rattle.locality.proofs.Written.{written, counted-of}
-use Rattle.locality.proofs.Clause.{unicode-usual, newline-clause}
+use Rattle.locality.proofs.Written.{written, counted-of, made-of}
+use Rattle.locality.proofs.Clause.{unicode-usual, lf-scalar, newline-clause}
 use Rattle.locality.proofs.Ahead.{read-front}
 use Rattle.locality.proofs.Insert.{Free, free-uncounted, insert-chars, insert-white, Fine, crlf-first, crlf-later}
 
@@ -72,12 +72,8 @@ module _ (profile : ℕ) where
   unfolding encodeAll encode
   encode-lf x = encode-append x (0x0A ∷ [])
 
-  lf-scalar : all isScalar (0x0A ∷ []) ≡ true
-  unfolding all isScalar
-  lf-scalar = refl
-
   end-bytes : {i : List Item} {l : List ℕ} → Cut i l [] → all isScalar l ≡ true → lastIs isOpen (toks i) ≡ false →
-      WellFormed (encodeAll l ++ 0x0A ∷ []) × (members3 profile (encodeAll l ++ 0x0A ∷ []) ≡ members3 profile (encodeAll l))
+      MadeOf (0x0A ∷ []) (encodeAll l) (encodeAll l ++ 0x0A ∷ []) × (members3 profile (encodeAll l ++ 0x0A ∷ []) ≡ members3 profile (encodeAll l))
   unfolding counted
   end-bytes {i} {l} c v h =
       let o = newline-end unicode unicode-usual profile c (last-closes i h) in
@@ -85,10 +81,11 @@ module _ (profile : ℕ) where
       let z : encodeAll (texts i ++ 0x0A ∷ []) ≡ encodeAll l ++ 0x0A ∷ [] = encode-lf (texts i) ∙ ap (λ (y : List ℕ). encodeAll y ++ 0x0A ∷ []) (sym t) in
       let w : all isScalar (texts i ++ 0x0A ∷ []) ≡ true = all-join isScalar (texts i) (0x0A ∷ []) (ap (all isScalar) (sym t) ∙ v) lf-scalar in
       let e : counted (o .new) ≡ counted i = o .same ∙ append-nil (counted i) in
-      (rw (← z) (encoded-well-formed (texts i ++ 0x0A ∷ []) w), rw (← z) (same-bytes c (o .cuts) v w e))
+      let d = made-of (0x0A ∷ []) l (texts i ++ 0x0A ∷ []) lf-scalar v (λ p q h. all-join p (texts i) (0x0A ∷ []) (ap (all p) (sym t) ∙ h) q) in
+      (rw (← z) d, rw (← z) (same-bytes c (o .cuts) v w e))
 
   -- a newline put at the end leaves the counted tokens, unless the last token is an unclosed comment or an unclosed quoted text
-  pub newline-appended : (s : List ℕ) → WellFormed s → lastIs isOpen (tokens3 profile s) ≡ false → WellFormed (s ++ 0x0A ∷ []) × (members3 profile (s ++ 0x0A ∷ []) ≡ members3 profile s)
+  pub newline-appended : (s : List ℕ) → WellFormed s → lastIs isOpen (tokens3 profile s) ≡ false → MadeOf (0x0A ∷ []) s (s ++ 0x0A ∷ []) × (members3 profile (s ++ 0x0A ∷ []) ≡ members3 profile s)
   unfolding tokens3
   newline-appended s f h =
       let e = well-formed-encoded s f in
@@ -105,9 +102,15 @@ module _ (profile : ℕ) where
       let n : length (encodeAll x) ≡ at = omega (arith, encode-bytes x h) in
       rw (encode-append x r, take-at (encodeAll x) (encodeAll r) at n, drop-at (encodeAll x) (encodeAll r) at n, encode-append x (v ++ r), encode-append v r)
 
+  -- whose characters are the old ones and v
+  with-more : {l n : List ℕ} (y v r : List ℕ) → l ≡ y ++ r → n ≡ y ++ (v ++ r) → (p : ℕ → Bool) → all p v ≡ true → all p l ≡ true → all p n ≡ true
+  with-more y v r t m p g f =
+      let q = all-append p y r (ap (all p) (sym t) ∙ f) in
+      ap (all p) m ∙ all-join p y (v ++ r) (q .0) (all-join p v r g (q .1))
+
   insert-bytes : {i j : List Item} {l r : List ℕ} (c : ℕ) (e : List ℕ) (k : Token) (v : List ℕ) (at : ℕ) → Cut i l (c ∷ (e ++ r)) → nextToken unicode profile c (e ++ r) ≡ (k, r) → isCounted (k .kind) ≡ false → Cut j r [] →
       Over unicode profile j i (texts i ++ c ∷ (e ++ (v ++ r))) → all isScalar l ≡ true → all isScalar v ≡ true → at ≡ total (toks i) + k .len →
-      WellFormed (inserted (encodeAll l) at (encodeAll v)) × (members3 profile (inserted (encodeAll l) at (encodeAll v)) ≡ members3 profile (encodeAll l))
+      MadeOf v (encodeAll l) (inserted (encodeAll l) at (encodeAll v)) × (members3 profile (inserted (encodeAll l) at (encodeAll v)) ≡ members3 profile (encodeAll l))
   unfolding counted byteLength
   insert-bytes {i} {j} {l} {r} c e k v at a x n b o f g p =
       let y : List ℕ = texts i ++ c ∷ e in
@@ -117,15 +120,16 @@ module _ (profile : ℕ) where
       let h : at ≡ byteLength y = omega (arith, total-bytes unicode profile a, cut-length unicode profile c e r k x, bytes-append (texts i) (c ∷ e)) in
       let z : inserted (encodeAll l) at (encodeAll v) ≡ encodeAll (texts i ++ c ∷ (e ++ (v ++ r))) =
       ap (λ (w : List ℕ). inserted (encodeAll w) at (encodeAll v)) t ∙ inserted-bytes y r v at (q .0) h ∙ ap encodeAll (sym m) in
-      let w : all isScalar (texts i ++ c ∷ (e ++ (v ++ r))) ≡ true = ap (all isScalar) m ∙ all-join isScalar y (v ++ r) (q .0) (all-join isScalar v r g (q .1)) in
+      let u = with-more y v r t m in
+      let w : all isScalar (texts i ++ c ∷ (e ++ (v ++ r))) ≡ true = u isScalar g f in
       let d : Cut (i ++ (k, c ∷ e) ∷ j) l [] = cuts-join unicode profile a (more refl x b) in
       let s : counted (o .new) ≡ counted (i ++ (k, c ∷ e) ∷ j) = o .same ∙ sym (counted-join i ((k, c ∷ e) ∷ j) ∙ rw n) in
-      (rw z (encoded-well-formed (texts i ++ c ∷ (e ++ (v ++ r))) w), rw z (same-bytes d (o .cuts) f w s))
+      (rw z (made-of v l (texts i ++ c ∷ (e ++ (v ++ r))) g f u), rw z (same-bytes d (o .cuts) f w s))
 
   -- behind a token of a text
   insert-at : {s : List ℕ} {at : ℕ} {t : Token} (v : List ℕ) → WellFormed s → EndsAt (tokens3 profile) s at t → isCounted (t .kind) ≡ false → all isScalar v ≡ true →
       ((i j : List Item) (l r : List ℕ) (c : ℕ) (e : List ℕ) → Cut i l (c ∷ (e ++ r)) → nextToken unicode profile c (e ++ r) ≡ (t, r) → Cut j r [] → Over unicode profile j i (texts i ++ c ∷ (e ++ (v ++ r)))) →
-      WellFormed (inserted s at (encodeAll v)) × (members3 profile (inserted s at (encodeAll v)) ≡ members3 profile s)
+      MadeOf v s (inserted s at (encodeAll v)) × (members3 profile (inserted s at (encodeAll v)) ≡ members3 profile s)
   unfolding tokens3
   insert-at {s} {at} {t} v f p n g over =
       let e = well-formed-encoded s f in
@@ -138,6 +142,14 @@ module _ (profile : ℕ) where
       rw (e .same)
       (insert-bytes (b .head) (b .text) t v at c (b .cut) n (j .cuts) (over (a .items) (j .items) (e .of) (b .left) (b .head) (b .text) c (b .cut) (j .cuts)) (e .scalars) g q)
 
+  -- v by its bytes
+  as-bytes : {s : List ℕ} (at : ℕ) (v : List ℕ) (e : Encoded v) → MadeOf (e .of) s (inserted s at (encodeAll (e .of))) × (members3 profile (inserted s at (encodeAll (e .of))) ≡ members3 profile s) →
+      MadeOf (chars v) s (inserted s at v) × (members3 profile (inserted s at v) ≡ members3 profile s)
+  as-bytes {s} at v e r =
+      let b : chars v ≡ e .of = ap chars (e .same) ∙ read-all (e .of) (e .scalars) in
+      let d : MadeOf (e .of) s (inserted s at v) = subst (λ (w : List ℕ). MadeOf (e .of) s (inserted s at w)) (sym (e .same)) (r .0) in
+      (subst (λ (y : List ℕ). MadeOf y s (inserted s at v)) (sym b) d, ap (λ (w : List ℕ). members3 profile (inserted s at w)) (e .same) ∙ r .1)
+
   whites : (v : List ℕ) → all isWhitespace v ≡ true → White v
   unfolding all
   whites [] h = white-none
@@ -148,23 +160,25 @@ module _ (profile : ℕ) where
 
   -- white space put directly behind a token that does not count
   pub white-inserted : {s : List ℕ} {at : ℕ} {t : Token} (v : List ℕ) → WellFormed s → EndsAt (tokens3 profile) s at t → isCounted (t .kind) ≡ false → WellFormed v → all isWhitespace (chars v) ≡ true →
-      WellFormed (inserted s at v) × (members3 profile (inserted s at v) ≡ members3 profile s)
+      MadeOf (chars v) s (inserted s at v) × (members3 profile (inserted s at v) ≡ members3 profile s)
   white-inserted {s} {at} {t} v f p n g h =
       let e = well-formed-encoded v g in
-      let w = whites (e .of) (ap (all isWhitespace) (sym (ap chars (e .same) ∙ read-all (e .of) (e .scalars))) ∙ h) in
-      rw (e .same) (insert-at (e .of) f p n (e .scalars) (λ i j l r c d a x b. insert-white unicode unicode-usual profile c d t a x n b w))
+      let b : chars v ≡ e .of = ap chars (e .same) ∙ read-all (e .of) (e .scalars) in
+      let w = whites (e .of) (ap (all isWhitespace) (sym b) ∙ h) in
+      as-bytes at v e (insert-at (e .of) f p n (e .scalars) (λ i j l r c d a x b. insert-white unicode unicode-usual profile c d t a x n b w))
 
   -- comments and white space put directly behind white space or a closed block comment: any text of tokens that do not count, of which the
   -- last is no line comment
   pub text-inserted : {s : List ℕ} {at : ℕ} {t : Token} (v : List ℕ) → WellFormed s → EndsAt (tokens3 profile) s at t → (eqb (t .kind) blockComment || eqb (t .kind) whitespaceKind) ≡ true → WellFormed v →
-      noneCount (tokens3 profile v) ≡ true → lastIs isLine (tokens3 profile v) ≡ false → WellFormed (inserted s at v) × (members3 profile (inserted s at v) ≡ members3 profile s)
+      noneCount (tokens3 profile v) ≡ true → lastIs isLine (tokens3 profile v) ≡ false → MadeOf (chars v) s (inserted s at v) × (members3 profile (inserted s at v) ≡ members3 profile s)
   unfolding tokens3
   text-inserted {s} {at} {t} v f p k g m h =
       let e = well-formed-encoded v g in
       let w = whole unicode profile (e .of) in
-      let y : tokens unicode profile (chars v) ≡ toks (w .items) = ap (tokens unicode profile) (ap chars (e .same) ∙ read-all (e .of) (e .scalars)) ∙ w .same in
+      let o : chars v ≡ e .of = ap chars (e .same) ∙ read-all (e .of) (e .scalars) in
+      let y : tokens unicode profile (chars v) ≡ toks (w .items) = ap (tokens unicode profile) o ∙ w .same in
       let z = free (t .kind) k in
-      rw (e .same)
+      as-bytes at v e
       (insert-at (e .of) f p (free-uncounted z) (e .scalars)
       (λ i j l r c d a x b. insert-chars unicode unicode-usual profile c d t a x z b (w .cuts) (ap noneCount (sym y) ∙ m) (ap (lastIs isLine) (sym y) ∙ h)))
 
@@ -254,7 +268,7 @@ module _ (profile : ℕ) where
 
   crlf-bytes : (A B : List ℕ) (k : Token) (p q : List Token) → all isScalar (A ++ 0x0A ∷ B) ≡ true → tokens unicode profile (A ++ 0x0A ∷ B) ≡ p ++ (k ∷ q) → k .kind ≡ whitespaceKind →
       total p ≤ byteLength A → byteLength A < total p + k .len → (total p ≡ byteLength A → lastIs isKept p ≡ false) →
-      WellFormed (encodeAll (A ++ 0x0D ∷ 0x0A ∷ B)) × (members3 profile (encodeAll (A ++ 0x0D ∷ 0x0A ∷ B)) ≡ members3 profile (encodeAll (A ++ 0x0A ∷ B)))
+      MadeOf (0x0D ∷ []) (encodeAll (A ++ 0x0A ∷ B)) (encodeAll (A ++ 0x0D ∷ 0x0A ∷ B)) × (members3 profile (encodeAll (A ++ 0x0D ∷ 0x0A ∷ B)) ≡ members3 profile (encodeAll (A ++ 0x0A ∷ B)))
   unfolding all isScalar
   crlf-bytes A B k p q v h w m n f =
       let a = split unicode profile p (k ∷ q) (A ++ 0x0A ∷ B) h in
@@ -265,12 +279,11 @@ module _ (profile : ℕ) where
       let o = crlf-cut (b .head) (b .text) k A B c (b .cut) w (j .cuts) refl (omega arith) (omega arith) (λ z. ap (lastIs isKept) (a .same) ∙ f (sym e ∙ z)) in
       let d : Cut profile (a .items ++ (k, b .head ∷ b .text) ∷ j .items) (A ++ 0x0A ∷ B) [] = cuts-join unicode profile c (more refl (b .cut) (j .cuts)) in
       let s : counted (o .new) ≡ counted (a .items ++ (k, b .head ∷ b .text) ∷ j .items) = o .same ∙ sym (counted-join (a .items) ((k, b .head ∷ b .text) ∷ j .items) ∙ ap (λ (y : List Item). counted (a .items) ++ y) (white-uncounted (j .items) k (b .head ∷ b .text) w)) in
-      let g = all-append isScalar A (0x0A ∷ B) v in
-      let u : all isScalar (A ++ 0x0D ∷ 0x0A ∷ B) ≡ true = all-join isScalar A (0x0D ∷ 0x0A ∷ B) (g .0) (g .1) in
-      (encoded-well-formed (A ++ 0x0D ∷ 0x0A ∷ B) u, same-bytes profile d (o .cuts) v u s)
+      let g = with-more profile A (0x0D ∷ []) (0x0A ∷ B) refl refl in
+      (made-of (0x0D ∷ []) (A ++ 0x0A ∷ B) (A ++ 0x0D ∷ 0x0A ∷ B) refl v g, same-bytes profile d (o .cuts) v (g isScalar refl v) s)
 
   -- a CR put before an LF in white space that ends no Pragma and no Annotation
-  pub crlf : (a b : List ℕ) → WellFormed a → WellFormed (a ++ 0x0A ∷ b) → LfIn (tokens3 profile) a b → WellFormed (a ++ 0x0D ∷ 0x0A ∷ b) × (members3 profile (a ++ 0x0D ∷ 0x0A ∷ b) ≡ members3 profile (a ++ 0x0A ∷ b))
+  pub crlf : (a b : List ℕ) → WellFormed a → WellFormed (a ++ 0x0A ∷ b) → LfIn (tokens3 profile) a b → MadeOf (0x0D ∷ []) (a ++ 0x0A ∷ b) (a ++ 0x0D ∷ 0x0A ∷ b) × (members3 profile (a ++ 0x0D ∷ 0x0A ∷ b) ≡ members3 profile (a ++ 0x0A ∷ b))
   unfolding tokens3 encodeAll encode
   crlf a b f g p =
       let A = well-formed-encoded a f in
@@ -285,4 +298,4 @@ module _ (profile : ℕ) where
       let y : encodeAll (A .of ++ 0x0D ∷ 0x0A ∷ B) ≡ a ++ 0x0D ∷ 0x0A ∷ b = encode-append (A .of) (0x0D ∷ 0x0A ∷ B) ∙ ap₂ (λ (y z : List ℕ). y ++ 0x0D ∷ 0x0A ∷ z) (sym (A .same)) c in
       let r = crlf-bytes (A .of) B (p .token) (p .before) (p .behind) (ap (all isScalar) (sym l) ∙ L .scalars) (ap (tokens unicode profile) (sym v) ∙ p .is) (p .white)
       (omega (arith, p .starts)) (omega (arith, p .ends)) (λ z. p .free (z ∙ n)) in
-      (rw y at (r .0), rw (x, y) at (r .1))
+      (rw (x, y) at (r .0), rw (x, y) at (r .1))

@@ -1,8 +1,8 @@
--- The counted tokens of a text of bytes, by the cuts of its characters.
+-- The counted tokens of a text of bytes, by the cuts of its characters, and what characters a text is made of.
 -- Assumes nothing.
 use Prim.Native.Nat.{ℕ}
 use mathlib.Core.Path.{_≡_, refl, ap, ap₂, sym, _∙_}
-use mathlib.Core.Bool.{true}
+use mathlib.Core.Bool.{Bool, true}
 use mathlib.Core.List.{List, [], _∷_, _++_, append-nil}
 use lib.ListN.{length, drop}
 use lib.Seq.{take-at, drop-at}
@@ -10,13 +10,14 @@ use Rattle.lists.specs.All.{all}
 use Rattle.lists.proofs.All.{all-append}
 use Rattle.lists.proofs.Bools.{by-test}
 use Rattle.unicode.specs.Utf8.{chars, isScalar, encodeAll}
-use Rattle.unicode.proofs.Valid.{encode-append, encode-bytes, read-all}
+use Rattle.unicode.proofs.Valid.{encoded-well-formed, encode-append, encode-bytes, read-all}
 use Rattle.cutters.specs.Records.{Token}
 use Rattle.lexer.specs.Cut.{Letters, tokens}
 use Rattle.lexer.specs.Unicode.{unicode}
 use Rattle.lexer.specs.Promises.{tokens3}
 use Rattle.lexer.proofs.Shapes.{tokens-nil}
 use Rattle.tokens.specs.Members.{Member, isCounted, counted as members, membersBy, members3}
+use Rattle.locality.specs.Newline.{MadeOf}
 use Rattle.locality.proofs.Cuts.{Item, counted, toks, Cuts, none, more, cuts-tokens, cut-length}
 
 -- ---- tokens with their bytes
@@ -44,3 +45,9 @@ counted-of profile {i} {l} c h =
     let t : tokens unicode profile (chars (encodeAll l)) ≡ toks i =
     ap (tokens unicode profile) (read-all l h) ∙ cuts-tokens unicode profile c ∙ ap (λ (y : List Token). toks i ++ y) (tokens-nil unicode profile) ∙ append-nil (toks i) in
     rw t (cuts-bytes unicode profile c h)
+
+-- a text of characters l, and one of characters each of which is one of l or of `extra`
+pub made-of : (extra l m : List ℕ) → all isScalar extra ≡ true → all isScalar l ≡ true → ((p : ℕ → Bool) → all p extra ≡ true → all p l ≡ true → all p m ≡ true) → MadeOf extra (encodeAll l) (encodeAll m)
+made-of extra l m g h e =
+    let k = e isScalar g h in
+    record { good = encoded-well-formed m k; each = λ p q r. rw (read-all m k) (e p q (rw (read-all l h) at r)) }

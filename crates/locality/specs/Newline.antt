@@ -1,4 +1,5 @@
--- What the newline clause speaks of: a run of tokens that do not count, and a text with one newline in its place.
+-- What the newline clause speaks of: a run of tokens that do not count, and a text with one newline in its place; and of what characters a changed text
+-- is made.
 -- Assumes nothing.
 use Prim.Native.Nat.{ℕ, _+_, _≤_}
 use mathlib.Core.Path.{_≡_}
@@ -6,6 +7,7 @@ use mathlib.Core.Bool.{Bool, true, not}
 use mathlib.Core.List.{List, _∷_, _++_}
 use lib.ListN.{length, take, drop}
 use Rattle.lists.specs.All.{all}
+use Rattle.unicode.specs.Utf8.{chars, WellFormed}
 use Rattle.cutters.specs.Records.{Token, total}
 use Rattle.tokens.specs.Members.{isCounted}
 
@@ -23,6 +25,11 @@ pub record Run (cutter : List ℕ → List Token) (s : List ℕ) (from to : ℕ)
   pub uncounted : noneCount run ≡ true
   pub starts : from ≡ total before
   pub ends : to ≡ total before + total run
+
+-- a well-formed text each of whose characters is one of s or of `more`: what holds of each of those, holds of each of its own
+pub record MadeOf (more s s′ : List ℕ) : Type 0 where
+  pub good : WellFormed s′
+  pub each : (p : ℕ → Bool) → all p more ≡ true → all p (chars s) ≡ true → all p (chars s′) ≡ true
 
 -- one newline in place of the bytes from one place to another
 unfoldable pub withNewline : List ℕ → ℕ → ℕ → List ℕ

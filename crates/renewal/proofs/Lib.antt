@@ -12,3 +12,4 @@ pub mod Exactly
 pub mod Whole
 pub mod RulesOut
 pub mod Newline
+pub mod Changes

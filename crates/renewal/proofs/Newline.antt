@@ -3,23 +3,24 @@
 use Prim.Native.Nat.{ℕ, _≤_}
 use native.Mathlib.Omega.{arith}
 use mathlib.Core.Path.{_≡_, refl, ap, sym, _∙_}
-use mathlib.Core.Bool.{true, false}
-use mathlib.Core.List.{List}
+use mathlib.Core.Bool.{true, false, not}
+use mathlib.Core.List.{List, [], _∷_}
 use lib.Dec.{ltb}
 use lib.ListN.{length, take}
 use borrow.Author.Tests.{le-ltb, eq-eqb}
+use Rattle.lists.specs.All.{all}
 use Rattle.lists.proofs.Bools.{on-cond}
-use Rattle.unicode.specs.Utf8.{WellFormed}
-use Rattle.text.specs.Answer.{done, longest, checkCut}
+use Rattle.unicode.specs.Direction.{isDirection, unmarked}
+use Rattle.text.specs.Answer.{done, longest, checkCut, CutAccepted}
 use Rattle.text.proofs.Checks.{cut-accepted, cut-passes}
-use Rattle.locality.specs.Newline.{Run, withNewline}
+use Rattle.locality.specs.Newline.{Run, MadeOf, withNewline}
 use Rattle.locality.proofs.Clause.{newline-shorter, newline-clause}
 use Rattle.lexer.specs.Promises.{tokens3, profile3, tokensOf}
 use Rattle.lexer.proofs.Places.{known3}
 use Rattle.tokens.specs.Members.{membersOf}
 use Rattle.tokens.proofs.OpenQasm.{members-known}
 use Rattle.renewal.specs.Key.{keyOf, keyOfText}
-use Rattle.renewal.specs.Promises.{answerOf, Keyed}
+use Rattle.renewal.specs.Promises.{answerOf, Keyed, Keeps}
 use Rattle.renewal.proofs.Whole.{done-accepted, done-written}
 
 -- where the counted tokens are the same, the keys are: with `members-known` each corollary of `locality` on what may change speaks of the key
@@ -27,11 +28,19 @@ pub same-key : (profile : ℕ) (s s′ : List ℕ) → membersOf profile s ≡ m
 unfolding keyOfText
 same-key profile s s′ e = ap keyOf e
 
--- with it a text that is well-formed and not too long is accepted, where the other was
-pub same-accepted : (profile : ℕ) (s s′ : List ℕ) → checkCut s profile .0 ≡ done → WellFormed s′ → length s′ ≤ longest → membersOf profile s′ ≡ membersOf profile s →
-    (checkCut s′ profile .0 ≡ done) × (keyOfText profile s′ ≡ keyOfText profile s)
-same-accepted profile s s′ h f l e =
-    (ap (λ (r : ℕ × ℕ). r .0) (cut-passes s′ profile (record { known = cut-accepted s profile h .known; text = record { short = l; good = f } })), same-key profile s′ s e)
+-- with it a text that is made of the characters of an accepted one and of others, none a direction mark, is accepted too if it is not too long
+pub same-accepted : (profile : ℕ) {more s s′ : List ℕ} → checkCut s profile .0 ≡ done → MadeOf more s s′ → all (λ c. not (isDirection c)) more ≡ true → length s′ ≤ longest → membersOf profile s′ ≡ membersOf profile s →
+    Keeps profile s s′
+unfolding unmarked
+same-accepted profile {s = s} {s′ = s′} h m q l e =
+    let a = cut-accepted s profile h in
+    let c : CutAccepted s′ profile = record { known = a .known; text = record { short = l; good = m .good }; clean = m .each (λ c. not (isDirection c)) q (a .clean) } in
+    (ap (λ (r : ℕ × ℕ). r .0) (cut-passes s′ profile c), same-key profile s′ s e)
+
+-- LF is no direction mark
+pub lf-plain : all (λ c. not (isDirection c)) (0x0A ∷ []) ≡ true
+unfolding all
+lf-plain = refl
 
 -- ---- under the profiles of OpenQASM 3 a run is its own
 run-known : (profile : ℕ) {s : List ℕ} {from to : ℕ} → profile3 profile ≡ true → Run (tokensOf profile) s from to → Run (tokens3 profile) s from to
@@ -50,14 +59,14 @@ run-known profile {s} k r =
 -- ---- THE NEWLINE CLAUSE: of a text that is accepted, with one newline in place of any unbroken run of one or more uncounted tokens, the new text
 -- is accepted too, and its key is the same
 pub newline-key : (profile : ℕ) {s : List ℕ} {from to : ℕ} → checkCut s profile .0 ≡ done → Run (tokensOf profile) s from to →
-    (checkCut (withNewline s from to) profile .0 ≡ done) × (keyOfText profile (withNewline s from to) ≡ keyOfText profile s)
+    Keeps profile s (withNewline s from to)
 newline-key profile {s} {from} {to} h r =
     let a = cut-accepted s profile h in
     let r₃ = run-known profile (a .known) r in
     let c = newline-clause profile (a .text .good) r₃ in
     let e : membersOf profile (withNewline s from to) ≡ membersOf profile s =
     members-known profile (withNewline s from to) (a .known) ∙ c .1 ∙ sym (members-known profile s (a .known)) in
-    same-accepted profile s (withNewline s from to) h (c .0) (omega (arith, newline-shorter profile r₃, a .text .short)) e
+    same-accepted profile h (c .0) lf-plain (omega (arith, newline-shorter profile r₃, a .text .short)) e
 
 -- what a call that is done tells: the length of the key
 done-length : {s : List ℕ} {profile : ℕ} {key : List ℕ} {a : ℕ} {k : List ℕ} → Keyed s profile key done a k → a ≡ length (keyOfText profile s)

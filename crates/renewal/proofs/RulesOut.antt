@@ -12,9 +12,10 @@ use Rattle.lists.specs.Cut.{pieces, cut}
 use Rattle.lists.specs.Eat.{eat}
 use Rattle.unicode.specs.Ranges.{inTable}
 use Rattle.ucd.specs.Ucd.{xidStart, xidContinue, emoji}
-use Rattle.unicode.specs.Utf8.{table, behind, begins, joined, readBy, first, next, chars, width, goodBytes, validUpTo}
+use Rattle.unicode.specs.Utf8.{table, behind, begins, joined, readBy, first, next, chars, width, bytesBefore, validUpTo}
+use Rattle.unicode.specs.Direction.{unmarked, unmarkedUpTo}
 use Rattle.unicode.specs.Text.{byteLength, skip}
-use Rattle.text.specs.Answer.{done, checkText, checkCut}
+use Rattle.text.specs.Answer.{done, checkText, checkMarks, checkCut}
 use Rattle.letters.specs.Chars.{whitespace}
 use Rattle.lexer.specs.Kinds.{marks, markIn}
 use Rattle.lexer.specs.Cut.{notLf, isDigit, isHexDigit, block, slash, digits, exponent, exponentOf, point, fraction, based, number, isUnit, quoted, quoteKind, agree, pound, name, word, annotated, hardware, identifier, numberSuffix, advance, nextToken, tokens}
@@ -61,7 +62,7 @@ leaves :
     × (Only spaced room 0 1 (0x0A ∷ 7 ∷ 7 ∷ []))
     × (Only x room 4 7 room)
     × (keyOfText 0 sample ≡ sampleKey)
-unfolding all pieces cut eat inTable xidStart xidContinue emoji table behind begins joined readBy first next chars width goodBytes validUpTo byteLength skip checkText checkCut whitespace marks markIn unicode tokens3 tokensOf notLf isDigit isHexDigit block slash digits exponent exponentOf point fraction based number isUnit quoted quoteKind agree pound name word annotated hardware identifier numberSuffix advance nextToken tokens isCounted counted membersBy membersOf bodyLength nextText texts encode keyOf keyOfText lowBytes flatten answerOf keyed
+unfolding all pieces cut eat inTable xidStart xidContinue emoji table behind begins joined readBy first next chars width bytesBefore validUpTo byteLength skip checkText unmarked unmarkedUpTo checkMarks checkCut whitespace marks markIn unicode tokens3 tokensOf notLf isDigit isHexDigit block slash digits exponent exponentOf point fraction based number isUnit quoted quoteKind agree pound name word annotated hardware identifier numberSuffix advance nextToken tokens isCounted counted membersBy membersOf bodyLength nextText texts encode keyOf keyOfText lowBytes flatten answerOf keyed
 leaves = ((refl, refl), (refl, refl), (refl, refl), (refl, refl), refl)
 
 -- ---- THE SAMPLE: the 22 bytes of x=0b1;//t

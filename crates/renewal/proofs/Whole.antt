@@ -10,9 +10,11 @@ use lib.ListN.{length, take, drop}
 use lib.Seq.{take-append-seam}
 use borrow.Author.Tests.{eq-eqb, eqb-true}
 use Rattle.lists.proofs.Bools.{by-test, on-cond}
-use Rattle.text.specs.Answer.{Answered, done, roomTooSmall, checkCut}
+use Rattle.unicode.specs.Direction.{unmarkedUpTo}
+use Rattle.text.specs.Answer.{Answered, done, roomTooSmall, directionMark, checkCut, CutMarked}
 use Rattle.text.specs.Steps.{Entered}
 use Rattle.text.proofs.Checks.{cut-passed}
+use Rattle.text.proofs.Marks.{marked-refused}
 use Rattle.text.proofs.Room as room
 use Rattle.cutters.specs.Records.{Token}
 use Rattle.lexer.specs.Cut.{Letters}
@@ -108,3 +110,10 @@ exactly-when-written {s} {s′} {profile} p q =
 pub keyed-unique : {s : List ℕ} {profile : ℕ} {key : List ℕ} {n a m b : ℕ} {l k : List ℕ} → Keyed s profile key n a l → Keyed s profile key m b k → (n ≡ m) × (a ≡ b) × (l ≡ k)
 keyed-unique p q =
     (p .answer .number-is ∙ sym (q .answer .number-is), p .answer .also-is ∙ sym (q .answer .also-is), p .key-is ∙ sym (q .key-is))
+
+-- ---- A TEXT WITH A DIRECTION MARK is refused with 7, in whatever room, and no byte of the memory changes
+pub keyed-marked : {s key key′ : List ℕ} {profile number also : ℕ} → CutMarked s profile → Keyed s profile key number also key′ → (number ≡ directionMark) × (also ≡ unmarkedUpTo s) × (key′ ≡ key)
+unfolding answerOf keyed
+keyed-marked m k =
+    let e = marked-refused m in
+    (rw e at (k .answer .number-is), rw e at (k .answer .also-is), rw e at (k .key-is))

@@ -22,3 +22,7 @@ keyed s profile key =
 pub record Keyed (s : List ℕ) (profile : ℕ) (key : List ℕ) (number also : ℕ) (key′ : List ℕ) : Type 0 where
   pub answer : Answered (answerOf s profile (length key)) number also
   pub key-is : key′ ≡ keyed s profile key
+
+-- a text is accepted, and has the key of another
+abbrev pub Keeps : ℕ → List ℕ → List ℕ → Type 0
+Keeps profile s s′ = (checkCut s′ profile .0 ≡ done) × (keyOfText profile s′ ≡ keyOfText profile s)

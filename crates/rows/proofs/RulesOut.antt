@@ -12,9 +12,10 @@ use Rattle.lists.specs.Cut.{pieces, cut}
 use Rattle.lists.specs.Eat.{eat}
 use Rattle.unicode.specs.Ranges.{inTable}
 use Rattle.ucd.specs.Ucd.{xidStart, xidContinue, emoji}
-use Rattle.unicode.specs.Utf8.{table, behind, begins, joined, readBy, first, next, chars, width, goodBytes, validUpTo}
+use Rattle.unicode.specs.Utf8.{table, behind, begins, joined, readBy, first, next, chars, width, bytesBefore, validUpTo}
+use Rattle.unicode.specs.Direction.{unmarked, unmarkedUpTo}
 use Rattle.unicode.specs.Text.{byteLength, skip}
-use Rattle.text.specs.Answer.{checkText, checkCut}
+use Rattle.text.specs.Answer.{checkText, checkMarks, checkCut}
 use Rattle.letters.specs.Chars.{whitespace}
 use Rattle.cutters.specs.Records.{recordWords}
 use Rattle.lexer.specs.Kinds.{marks, markIn}
@@ -33,7 +34,7 @@ seven = record { kind = 7; len = 7; suffix = 7 }
 
 -- a semicolon in a row of two records: the first is its token, and the second is as it was
 leaves : rowed semicolon 0 (seven ∷ seven ∷ []) ≡ record { kind = 10; len = 1; suffix = 0 } ∷ seven ∷ []
-unfolding all pieces cut eat inTable xidStart xidContinue emoji table behind begins joined readBy first next chars width goodBytes validUpTo byteLength skip checkText checkCut whitespace marks markIn unicode tokens3 tokensOf answerOf isDigit advance nextToken tokens records rowed
+unfolding all pieces cut eat inTable xidStart xidContinue emoji table behind begins joined readBy first next chars width bytesBefore validUpTo byteLength skip checkText unmarked unmarkedUpTo checkMarks checkCut whitespace marks markIn unicode tokens3 tokensOf answerOf isDigit advance nextToken tokens records rowed
 leaves = refl
 
 -- nothing written

@@ -9,11 +9,12 @@ use lib.Dec.{ltb, eqb}
 use lib.ListN.{length, take, drop}
 use borrow.Author.Tests.{ltb-false, lt-ltb, le-ltb, eqb-true, eqb-false, eq-eqb, ne-eqb}
 use Rattle.lists.proofs.Bools.{by-test}
-use Rattle.unicode.specs.Utf8.{validUpTo}
 use Rattle.unicode.specs.Ranges.{flat}
 use Rattle.ucd.specs.Ucd.{xidStart, xidContinue, emoji}
-use Rattle.text.specs.Answer.{Answered, done, roomTooSmall, longest, knownProfile, checkText, checkCut}
-use Rattle.text.proofs.Checks.{cut-accepted}
+use Rattle.unicode.specs.Direction.{unmarkedUpTo}
+use Rattle.text.specs.Answer.{Answered, done, roomTooSmall, directionMark, longest, checkCut, CutMarked}
+use Rattle.text.proofs.Checks.{cut-accepted, never-room}
+use Rattle.text.proofs.Marks.{marked-refused}
 use Rattle.cutters.specs.Records as definitions
 use Rattle.cutters.specs.Records.{recordWords}
 use Rattle.lexer.specs.Cut.{Letters}
@@ -47,14 +48,6 @@ token-at {u} {profile} {s} {at} {kind} {suffixAt} {end} short a =
     rw (a .kind-is, l, m) (first-run u profile s at short)
 
 -- ---- the checks
--- of these no refusal is 4
-below-four : (s : List ℕ) (p : ℕ) → checkCut s p .0 < 4
-unfolding checkCut checkText
-below-four s p =
-    by-test (knownProfile p)
-    (λ a. by-test (ltb longest (length s)) (λ b. rw (a, b) (omega arith)) (λ b. by-test (ltb (validUpTo s) (length s)) (λ d. rw (a, b, d) (omega arith)) (λ d. rw (a, b, d) (omega arith))))
-    (λ a. rw a (omega arith))
-
 whole-records : (room : ℕ) → recordWords * room / recordWords ≡ room
 whole-records room = omega arith
 
@@ -77,7 +70,7 @@ told-need {s} {profile = profile} {number} l n =
     (λ b. (eqb-true _ _ t, rw (t, b) at (l .answer .also-is))))
     (λ t.
     let e : number ≡ checkCut s profile .0 = rw t at (l .answer .number-is) in
-    absurd (omega (arith, below-four s profile, e, n)))
+    absurd (never-room s profile (sym e ∙ n)))
 
 module _ {s : List ℕ} {profile room number also : ℕ} where
   pub judged-roomy : length s ≤ room → Answered (checkCut s profile) number also → Judged s profile room number also
@@ -174,3 +167,10 @@ module _ {starts mores emojis : List ℕ} (a : starts ≡ flat xidStart) (b : mo
 
   pub filled-letters : {profile n : ℕ} {s : List ℕ} {row row′ : List Token} → Filled (lent starts mores emojis) profile s row n row′ → Filled unicode profile s row n row′
   filled-letters {profile} {n} {s} {row} {row′} f = subst (λ (u : Letters). Filled u profile s row n row′) letters-are f
+
+-- ---- A TEXT WITH A DIRECTION MARK is refused with 7, in whatever room, and the row is left as it was
+pub rowed-marked : {s : List ℕ} {profile number also : ℕ} {row row′ : List Token} → CutMarked s profile → Rowed s profile row number also row′ → (number ≡ directionMark) × (also ≡ unmarkedUpTo s) × (row′ ≡ row)
+unfolding answerOf rowed
+rowed-marked m r =
+    let e = marked-refused m in
+    (rw e at (r .answer .number-is), rw e at (r .answer .also-is), rw e at (r .row-is))

@@ -8,9 +8,10 @@ use Rattle.lists.specs.Cut.{pieces, cut}
 use Rattle.lists.specs.Eat.{eat}
 use Rattle.unicode.specs.Ranges.{inTable}
 use Rattle.ucd.specs.Ucd.{xidStart, xidContinue, emoji}
-use Rattle.unicode.specs.Utf8.{table, behind, begins, joined, readBy, first, next, chars, width, goodBytes, validUpTo}
+use Rattle.unicode.specs.Utf8.{table, behind, begins, joined, readBy, first, next, chars, width, bytesBefore, validUpTo}
+use Rattle.unicode.specs.Direction.{unmarked, unmarkedUpTo}
 use Rattle.unicode.specs.Text.{byteLength, skip}
-use Rattle.text.specs.Answer.{checkText, checkCut}
+use Rattle.text.specs.Answer.{checkText, checkMarks, checkCut}
 use Rattle.letters.specs.Chars.{whitespace}
 use Rattle.lexer.specs.Kinds.{marks, markIn}
 use Rattle.lexer.specs.Cut.{notLf, isDigit, isHexDigit, block, slash, digits, exponent, exponentOf, point, fraction, based, number, isUnit, quoted, quoteKind, agree, pound, name, word, annotated, hardware, identifier, numberSuffix, advance, nextToken, tokens}
@@ -45,5 +46,5 @@ pairs =
     record { old = 0x3B ∷ []; new = 0xFF ∷ []; answer = refusedBy newRefused (3, 0) } ∷ []
 
 pub all-pairs : Each (λ (p : Pair). compared 0 (p .old) (p .new) ≡ p .answer) pairs
-unfolding all pieces cut eat inTable xidStart xidContinue emoji table behind begins joined readBy first next chars width goodBytes validUpTo byteLength skip checkText checkCut whitespace marks markIn notLf isDigit isHexDigit block slash digits exponent exponentOf point fraction based number isUnit quoted quoteKind agree pound name word annotated hardware identifier numberSuffix advance nextToken tokens unicode tokens3 tokensOf isCounted counted membersBy membersOf sameBytes alike compare.agree sights partedBy compared
+unfolding all pieces cut eat inTable xidStart xidContinue emoji table behind begins joined readBy first next chars width bytesBefore validUpTo byteLength skip checkText unmarked unmarkedUpTo checkMarks checkCut whitespace marks markIn notLf isDigit isHexDigit block slash digits exponent exponentOf point fraction based number isUnit quoted quoteKind agree pound name word annotated hardware identifier numberSuffix advance nextToken tokens unicode tokens3 tokensOf isCounted counted membersBy membersOf sameBytes alike compare.agree sights partedBy compared
 all-pairs = (refl, (refl, (refl, (refl, (refl, (refl, (refl, tt)))))))

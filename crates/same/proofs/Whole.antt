@@ -11,8 +11,10 @@ use borrow.Author.Tests.{eq-eqb, ne-eqb, eqb-true}
 use Rattle.lists.proofs.Bools.{by-test, both}
 use Rattle.unicode.specs.Ranges.{flat}
 use Rattle.ucd.specs.Ucd.{xidStart, xidContinue, emoji}
-use Rattle.text.specs.Answer.{Answered, done, checkCut}
+use Rattle.unicode.specs.Direction.{unmarkedUpTo}
+use Rattle.text.specs.Answer.{Answered, done, directionMark, checkCut, CutMarked}
 use Rattle.text.proofs.Checks.{cut-passed}
+use Rattle.text.proofs.Marks.{marked-refused}
 use Rattle.lexer.specs.Cut.{Letters}
 use Rattle.lexer.specs.Unicode.{lent}
 use Rattle.lexer.specs.Promises.{tokens3, profile3, tokensOf, tokensBy}
@@ -108,3 +110,12 @@ verdict-accepted profile s s′ h =
     by-test (eqb (checkCut s′ profile .0) done) (λ f. (eqb-true _ _ e, eqb-true _ _ f))
     (λ f. absurd (omega (arith, rw (e, f) at h))))
     (λ e. absurd (omega (arith, rw e at h)))
+
+-- ---- A TEXT WITH A DIRECTION MARK is refused with 7: the old one, and the new one where the old one is accepted
+pub compared-old-marked : (profile : ℕ) (s s′ : List ℕ) → CutMarked s profile → compared profile s s′ ≡ refusedBy oldRefused (directionMark, unmarkedUpTo s)
+unfolding compared
+compared-old-marked profile s s′ m = let e = marked-refused m in rw e
+
+pub compared-new-marked : (profile : ℕ) (s s′ : List ℕ) → checkCut s profile .0 ≡ done → CutMarked s′ profile → compared profile s s′ ≡ refusedBy newRefused (directionMark, unmarkedUpTo s′)
+unfolding compared
+compared-new-marked profile s s′ h m = let e = marked-refused m in rw (eq-eqb _ _ h, e)

@@ -11,9 +11,10 @@ use Rattle.lists.specs.Cut.{pieces, cut}
 use Rattle.lists.specs.Eat.{eat}
 use Rattle.unicode.specs.Ranges.{inTable}
 use Rattle.ucd.specs.Ucd.{xidStart, xidContinue, emoji}
-use Rattle.unicode.specs.Utf8.{table, behind, begins, joined, readBy, first, next, chars, width, goodBytes, validUpTo}
+use Rattle.unicode.specs.Utf8.{table, behind, begins, joined, readBy, first, next, chars, width, bytesBefore, validUpTo}
+use Rattle.unicode.specs.Direction.{unmarked, unmarkedUpTo}
 use Rattle.unicode.specs.Text.{byteLength, skip}
-use Rattle.text.specs.Answer.{checkText, checkCut}
+use Rattle.text.specs.Answer.{checkText, checkMarks, checkCut}
 use Rattle.letters.specs.Chars.{whitespace}
 use Rattle.cutters.specs.Records.{recordWords, flatFrom}
 use Rattle.lexer.specs.Kinds.{marks, markIn}
@@ -61,7 +62,7 @@ leaves :
     × (Only line-nul room 0 1 (1 ∷ 4 ∷ 0 ∷ 7 ∷ 7 ∷ 7 ∷ []))
     × (Only block-nul room 0 1 (2 ∷ 5 ∷ 0 ∷ 7 ∷ 7 ∷ 7 ∷ []))
     × (Only quote-nul room 0 1 (57 ∷ 3 ∷ 3 ∷ 7 ∷ 7 ∷ 7 ∷ []))
-unfolding all pieces cut eat inTable xidStart xidContinue emoji table behind begins joined readBy first next chars width goodBytes validUpTo byteLength skip checkText checkCut whitespace marks markIn unicode tokens3 tokensOf answerOf listed notLf isDigit isHexDigit block slash digits exponent exponentOf point fraction based number isUnit quoted withoutLf twice quoteKind agree identifier numberSuffix advance nextToken tokens flatFrom
+unfolding all pieces cut eat inTable xidStart xidContinue emoji table behind begins joined readBy first next chars width bytesBefore validUpTo byteLength skip checkText unmarked unmarkedUpTo checkMarks checkCut whitespace marks markIn unicode tokens3 tokensOf answerOf listed notLf isDigit isHexDigit block slash digits exponent exponentOf point fraction based number isUnit quoted withoutLf twice quoteKind agree identifier numberSuffix advance nextToken tokens flatFrom
 leaves = ((refl, refl), (refl, refl), (refl, refl), (refl, refl), (refl, refl), (refl, refl), (refl, refl), (refl, refl))
 
 -- an exponent for 1.e5, so that no suffix is left

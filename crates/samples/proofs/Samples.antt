@@ -7,9 +7,10 @@ use Rattle.lists.specs.Cut.{pieces, cut}
 use Rattle.lists.specs.Eat.{eat}
 use Rattle.unicode.specs.Ranges.{inTable}
 use Rattle.ucd.specs.Ucd.{xidStart, xidContinue, emoji}
-use Rattle.unicode.specs.Utf8.{table, behind, begins, joined, readBy, first, next, chars, width, goodBytes, validUpTo}
+use Rattle.unicode.specs.Utf8.{table, behind, begins, joined, readBy, first, next, chars, width, bytesBefore, validUpTo}
+use Rattle.unicode.specs.Direction.{unmarked, unmarkedUpTo}
 use Rattle.unicode.specs.Text.{byteLength, skip}
-use Rattle.text.specs.Answer.{checkText, checkCut}
+use Rattle.text.specs.Answer.{checkText, checkMarks, checkCut}
 use Rattle.letters.specs.Chars.{whitespace}
 use Rattle.cutters.specs.Records.{flatFrom}
 use Rattle.lexer.specs.Kinds.{marks, markIn}
@@ -27,6 +28,6 @@ use Rattle.samples.specs.Samples.{Sample, does, samples}
 use Rattle.lexer.specs.Cut.{notLf, isDigit, isHexDigit, block, slash, digits, exponent, exponentOf, point, fraction, based, number, isUnit, quoted, withoutLf, twice, quoteKind, agree, pound, name, word, annotated, hardware, identifier, numberSuffix, advance, nextToken, tokens}
 
 pub all-samples : Each (λ (x : Sample). does (x .call) ≡ (x .answer, x .after)) samples
-unfolding isCounted counted membersBy membersOf bodyLength lowBytes nextText flatten texts encode keyOf keyOfText keyAnswer keyed isSingle isRaw charactersShouldBeAscii toDigit hexDigit hexEscape firstDigit moreDigits codePoint closing braced unicodeEscape simple escape asciiCheck alone oneChar charOrByte items itemsOf flatItems bodyAnswer bodyListed pieces cut eat inTable xidStart xidContinue emoji table behind begins joined readBy first next chars width goodBytes validUpTo byteLength skip checkText checkCut whitespace marks markIn unicode tokens3 tokensOf answerOf listed notLf isDigit isHexDigit block slash digits exponent exponentOf point fraction based number isUnit quoted all withoutLf twice quoteKind agree pound name word annotated hardware identifier numberSuffix advance nextToken tokens flatFrom samples
+unfolding isCounted counted membersBy membersOf bodyLength lowBytes nextText flatten texts encode keyOf keyOfText keyAnswer keyed isSingle isRaw charactersShouldBeAscii toDigit hexDigit hexEscape firstDigit moreDigits codePoint closing braced unicodeEscape simple escape asciiCheck alone oneChar charOrByte items itemsOf flatItems bodyAnswer bodyListed pieces cut eat inTable xidStart xidContinue emoji table behind begins joined readBy first next chars width bytesBefore validUpTo byteLength skip checkText unmarked unmarkedUpTo checkMarks checkCut whitespace marks markIn unicode tokens3 tokensOf answerOf listed notLf isDigit isHexDigit block slash digits exponent exponentOf point fraction based number isUnit quoted all withoutLf twice quoteKind agree pound name word annotated hardware identifier numberSuffix advance nextToken tokens flatFrom samples
 all-samples =
     (refl, (refl, (refl, (refl, (refl, (refl, (refl, (refl, (refl, (refl, (refl, (refl, (refl, (refl, (refl, (refl, (refl, (refl, tt))))))))))))))))))

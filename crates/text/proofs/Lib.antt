@@ -1,2 +1,3 @@
 pub mod Checks
+pub mod Marks
 pub mod Room

@@ -1,12 +1,13 @@
 -- What comes back from an entry that can refuse: a number, and what is also returned with it; and the checks that it begins with.
 -- Assumes nothing.
 use mathlib.Core.Path.{_≡_}
-use mathlib.Core.Bool.{Bool, true, cond}
+use mathlib.Core.Bool.{Bool, true, false, cond}
 use mathlib.Core.List.{List}
 use Prim.Native.Nat.{ℕ, _≤_}
 use lib.Dec.{ltb, eqb}
 use lib.ListN.{length}
 use Rattle.unicode.specs.Utf8.{validUpTo, WellFormed}
+use Rattle.unicode.specs.Direction.{unmarked, unmarkedUpTo}
 
 -- ---- the numbers
 abbrev pub done : ℕ
@@ -23,6 +24,9 @@ notUtf8 = 3
 
 abbrev pub roomTooSmall : ℕ
 roomTooSmall = 4
+
+abbrev pub directionMark : ℕ
+directionMark = 7
 
 -- the most bytes that a text may have
 abbrev pub longest : ℕ
@@ -58,9 +62,13 @@ checkUtf8 s = cond (ltb (validUpTo s) (length s)) (notUtf8, validUpTo s) (done, 
 unfoldable pub checkText : List ℕ → ℕ × ℕ
 checkText s = checkLength s andThen checkUtf8 s
 
+-- a direction mark: with the byte place of the first
+unfoldable pub checkMarks : List ℕ → ℕ × ℕ
+checkMarks s = cond (unmarked s) (done, 0) (directionMark, unmarkedUpTo s)
+
 -- the checks of the entries that list tokens or make keys
 unfoldable pub checkCut : List ℕ → ℕ → ℕ × ℕ
-checkCut s p = checkProfile p andThen checkText s
+checkCut s p = checkProfile p andThen checkText s andThen checkMarks s
 
 -- room for `room` where `need` are needed
 abbrev pub checkRoom : ℕ → ℕ → ℕ × ℕ
@@ -71,7 +79,14 @@ pub record Accepted (s : List ℕ) : Type 0 where
   pub short : length s ≤ longest
   pub good : WellFormed s
 
--- and `checkCut`: such a text, under a known profile
+-- and `checkCut`: such a text without direction marks, under a known profile
 pub record CutAccepted (s : List ℕ) (p : ℕ) : Type 0 where
   pub known : knownProfile p ≡ true
   pub text : Accepted s
+  pub clean : unmarked s ≡ true
+
+-- what `checkCut` refuses with 7: a text that passes `checkText` and holds a direction mark, under a known profile
+pub record CutMarked (s : List ℕ) (p : ℕ) : Type 0 where
+  pub known : knownProfile p ≡ true
+  pub text : Accepted s
+  pub marked : unmarked s ≡ false

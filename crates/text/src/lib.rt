@@ -1,6 +1,7 @@
 // What an entry that can refuse answers, and the checks that it begins with.
 ghost use mathlib.Core.Path.{_≡_};
-ghost use Rattle.text.specs.Answer.{Answered, defaultProfile, checkText, checkCut};
+ghost use Rattle.text.specs.Answer.{Answered, defaultProfile, checkText, checkMarks, checkCut, _andThen_};
+use unicode::utf8::clean_up_to;
 use unicode::utf8::valid_up_to;
 
 // The number says how a call went, and `also` what comes with it.
@@ -19,6 +20,8 @@ pub const TOO_LONG: u32 = 2;
 pub const NOT_UTF8: u32 = 3;
 
 pub const ROOM_TOO_SMALL: u32 = 4;
+
+pub const DIRECTION_MARK: u32 = 7;
 
 // The most bytes that a text may have.
 pub const LONGEST: usize = 4294967295;
@@ -58,7 +61,32 @@ pub fn check_text(text: &[u8]) -> Answer
     }
 }
 
-// Refusal 1 for an unknown profile, then what check_text refuses: for the entries that list tokens or make keys.
+// What check_text refuses, then 7 for a text that holds a direction mark, else 0. One walk finds the first fault of either kind, and only where there is
+// one is it asked which of them is given: bytes that are not UTF-8 go first wherever they stand.
+fn check_clean(text: &[u8]) -> Answer
+    ensures { λ r. ⌜ Answered (checkText (now (text .entry)) andThen checkMarks (now (text .entry))) (r .number) (r .also) ⌝ }
+{
+    if LONGEST < text.len() {
+        return check_text(text);
+    }
+    let clean = clean_up_to(text);
+    if text.len() <= clean {
+        return Answer {
+            number: DONE,
+            also: 0,
+        };
+    }
+    let checked = check_text(text);
+    if checked.number != DONE {
+        return checked;
+    }
+    Answer {
+        number: DIRECTION_MARK,
+        also: clean as u64,
+    }
+}
+
+// Refusal 1 for an unknown profile, then what check_clean refuses: for the entries that list tokens or make keys.
 pub fn check_cut(text: &[u8], profile: u32) -> Answer
     ensures { λ r. ⌜ Answered (checkCut (now (text .entry)) profile) (r .number) (r .also) ⌝ }
 {
@@ -68,5 +96,5 @@ pub fn check_cut(text: &[u8], profile: u32) -> Answer
             also: 0,
         };
     }
-    check_text(text)
+    check_clean(text)
 }

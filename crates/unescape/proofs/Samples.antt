@@ -11,7 +11,7 @@ use Rattle.lists.specs.Eat.{eat}
 use Rattle.lists.specs.Steps.{valuesFrom}
 use Rattle.lists.proofs.Values.{values-at}
 use Rattle.unicode.specs.Ranges.{inTable}
-use Rattle.unicode.specs.Utf8.{table, behind, begins, joined, readBy, first, next, chars, width, isScalar, goodBytes, validUpTo}
+use Rattle.unicode.specs.Utf8.{table, behind, begins, joined, readBy, first, next, chars, width, isScalar, bytesBefore, validUpTo}
 use Rattle.unicode.specs.Text.{byteLength}
 use Rattle.ucd.specs.Ucd.{whiteSpace}
 use Rattle.text.specs.Answer.{Answered, done, unknownSelector, roomTooSmall, checkText}
@@ -24,7 +24,7 @@ use Rattle.unescape.proofs.Digits.{digit-below, digit-above}
 
 -- to unfold this is to unfold all that the examples compute with
 definitions : ℕ
-unfolding cut pieces eat inTable table behind begins joined readBy first next chars width isScalar goodBytes validUpTo byteLength whiteSpace checkText isSingle isRaw charactersShouldBeAscii toDigit hexDigit hexEscape firstDigit moreDigits codePoint closing braced unicodeEscape simple escape asciiCheck alone oneChar charOrByte strChar rawChar unskipped skipped slashed strCommon rawStr turn flatten turns items itemsOf flat answerOf listed single
+unfolding cut pieces eat inTable table behind begins joined readBy first next chars width isScalar bytesBefore validUpTo byteLength whiteSpace checkText isSingle isRaw charactersShouldBeAscii toDigit hexDigit hexEscape firstDigit moreDigits codePoint closing braced unicodeEscape simple escape asciiCheck alone oneChar charOrByte strChar rawChar unskipped skipped slashed strCommon rawStr turn flatten turns items itemsOf flat answerOf listed single
 definitions = 0
 
 -- a mode, a body, and the words of its items

@@ -8,40 +8,44 @@ use native.Mathlib.Decide.{decLe, ℕ-discrete}
 use native.Mathlib.Omega.{arith}
 use lib.Dec.{ltb}
 use lib.ListN.{length, getD}
-use borrow.Author.Tests.{lt-ltb, le-ltb, ltb-true, not-false}
+use borrow.Author.Tests.{lt-ltb, le-ltb, ltb-true, not-true, not-false}
 use Rattle.lists.proofs.Bools.{and-false, both}
 use Rattle.unicode.specs.Ranges.{_to_, inRange}
-use Rattle.unicode.specs.Steps.{low, high, free, Stood, whole, Passed}
+use Rattle.unicode.specs.Steps.{low, high, free, mayStand, Stood, whole, spells, Clear, stops, Passed}
 use Rattle.unicode.specs.Text.{Decoded}
-use Rattle.unicode.proofs.First.{under-4}
+use Rattle.unicode.proofs.First.{over-4, under-4}
 use Rattle.unicode.proofs.Reading.{two-yes, three-yes, four-yes, decoded-two, decoded-three, decoded-four}
 use Rattle.unicode.proofs.Rows.{In, in-range, is-in, low-ge, high-le}
 use Rattle.unicode.proofs.Text.{decoded-point}
-use Rattle.unicode.proofs.Valid.{ascii-point, passed-none, passed-char, passed-then}
+use Rattle.unicode.proofs.Direction.{low-free, high-free, other-free, unspelt}
+use Rattle.unicode.proofs.Walks.{ascii-point, passed-none, passed-char, passed-then}
 
 -- ---- past one character
-module _ (s : List ℕ) (at : ℕ) where
-  past-1 : at < length s → getD s at 0 ≤ 0x7F → Passed s at (at + 1)
-  past-1 l h = passed-char (ascii-point s at l (omega arith)) (omega arith) refl
+module _ (barred : Bool) (s : List ℕ) (at : ℕ) where
+  past-1 : at < length s → getD s at 0 ≤ 0x7F → Passed (stops barred) s at (at + 1)
+  past-1 l h = passed-char (ascii-point s at l (omega arith)) (low-free barred (getD s at 0) (omega arith)) refl
 
-  past-2 : at < length s → In 0xC2 0xDF (getD s at 0) → In 0x80 0xBF (getD s (at + 1) 0) → Passed s at (at + 2)
+  past-2 : at < length s → In 0xC2 0xDF (getD s at 0) → In 0x80 0xBF (getD s (at + 1) 0) → Passed (stops barred) s at (at + 2)
   past-2 l i j =
       let a = getD s at 0 in
       let b = getD s (at + 1) 0 in
       let d : Decoded s at (a % 32 * 64 + b % 64) 2 =
       decoded-two s at l {b = b} (two-yes a b {t = true} (sym (is-in j)) refl refl refl) refl (i .over) (omega (arith, i .under)) in
-      passed-char (decoded-point d l) (omega arith) refl
+      passed-char (decoded-point d l) (low-free barred (a % 32 * 64 + b % 64) (omega arith)) refl
 
-  past-3 : at < length s → In 0xE0 0xEF (getD s at 0) → In (low (getD s at 0)) (high (getD s at 0)) (getD s (at + 1) 0) → In 0x80 0xBF (getD s (at + 2) 0) → Passed s at (at + 3)
-  past-3 l i j k =
+  past-3 : at < length s → In 0xE0 0xEF (getD s at 0) → In (low (getD s at 0)) (high (getD s at 0)) (getD s (at + 1) 0) → In 0x80 0xBF (getD s (at + 2) 0) → (barred ≡ true → spells (getD s at 0) (getD s (at + 1) 0) (getD s (at + 2) 0) ≡ false) → Passed (stops barred) s at (at + 3)
+  past-3 l i j k m =
       let a = getD s at 0 in
       let b = getD s (at + 1) 0 in
       let c = getD s (at + 2) 0 in
       let d : Decoded s at ((a % 16 * 64 + b % 64) * 64 + c % 64) 3 =
       decoded-three s at l {b = b} {c = c} (three-yes a b {t = true} refl refl (sym (is-in j)) c {u = true} refl (sym (is-in k)) refl refl refl) refl refl (i .over) (omega (arith, i .under)) in
-      passed-char (decoded-point d l) (omega arith) refl
+      let x : low a ≤ b = j .over in
+      let y : b ≤ high a = j .under in
+      let n : In 0x80 0xBF b = record { over = omega (arith, x, low-ge a); under = omega (arith, y, high-le a) } in
+      passed-char (decoded-point d l) (other-free barred ((a % 16 * 64 + b % 64) * 64 + c % 64) (omega arith) (λ e. unspelt a b c i n k (m e))) refl
 
-  past-4 : at < length s → In 0xF0 0xF4 (getD s at 0) → In (low (getD s at 0)) (high (getD s at 0)) (getD s (at + 1) 0) → In 0x80 0xBF (getD s (at + 2) 0) → In 0x80 0xBF (getD s (at + 3) 0) → Passed s at (at + 4)
+  past-4 : at < length s → In 0xF0 0xF4 (getD s at 0) → In (low (getD s at 0)) (high (getD s at 0)) (getD s (at + 1) 0) → In 0x80 0xBF (getD s (at + 2) 0) → In 0x80 0xBF (getD s (at + 3) 0) → Passed (stops barred) s at (at + 4)
   past-4 l i j k m =
       let a = getD s at 0 in
       let b = getD s (at + 1) 0 in
@@ -51,7 +55,7 @@ module _ (s : List ℕ) (at : ℕ) where
       decoded-four s at l {b = b} {c = c} {d = e}
       (four-yes a b {t = true} refl refl (sym (is-in j)) c {u = true} refl (sym (is-in k)) e {v = true} refl (sym (is-in m)) refl refl refl)
       refl refl refl (i .over) (omega (arith, i .under)) in
-      passed-char (decoded-point d l) (under-4 a b c e i j k m) refl
+      passed-char (decoded-point d l) (high-free barred _ (omega (arith, over-4 a b c e i j k m)) (under-4 a b c e i j k m)) refl
 
 -- ---- the three bytes before a place
 record Free (a b c : ℕ) : Type 0 where
@@ -77,34 +81,41 @@ held-2 a b c h = simp (le-ltb b 0xE0 h, and-false)
 held-3 : (a b c : ℕ) → 0xF0 ≤ a → free a b c ≡ false
 held-3 a b c h = simp (le-ltb a 0xF0 h, and-false)
 
--- ---- what a byte counts for, as `search` takes it from what a need knows
+-- ---- whether a byte may stand, and what it counts for, as `search` takes them from what a need knows
+module _ (a b c d : ℕ) {r t : Bool} where
+  pub fits-first : {u : Bool} → t ≡ free a b c → t ≡ true → u ≡ inRange d (0x80 to 0xC1) → r ≡ not u → r ≡ mayStand a b c d
+  unfolding mayStand
+  fits-first p q v e = rw (sym p ∙ q, ← v) e
+
+  pub fits-on : {lo hi : ℕ} → t ≡ free a b c → t ≡ false → lo ≡ low c → hi ≡ high c → r ≡ inRange d (lo to hi) → r ≡ mayStand a b c d
+  unfolding mayStand
+  fits-on p q j k e = rw (sym p ∙ q, ← j, ← k) e
+
+pub ruleset fitting = (fits-first, fits-on)
+
 module _ {a b c d r : ℕ} where
   pub stood-none : d < 256 → r ≡ 255 → Stood a b c d r
   stood-none h e =
-      record { most = omega arith; begins = λ f l g. absurd (omega arith); over = λ f l. absurd (omega arith); under = λ f l. absurd (omega arith) }
+      record { most = omega arith; begins = λ f l g. absurd (omega arith); over = λ f l. absurd (omega arith); under = λ f l. absurd (omega arith); lead = λ l q. absurd (omega arith) }
 
-  pub stood-first : {t u : Bool} → t ≡ free a b c → t ≡ true → u ≡ inRange d (0x80 to 0xC1) → u ≡ false → r ≡ d → Stood a b c d r
-  stood-first p q v w e =
-      let x : free a b c ≡ true = sym p ∙ q in
-      let y : inRange d (0x80 to 0xC1) ≡ false = sym v ∙ w in
+  stood : mayStand a b c d ≡ true → d ≤ r → (r < 0xF4 → d ≡ 0xE2 → ⊥) → Stood a b c d r
+  unfolding mayStand
+  stood h m e =
       record {
-        most = omega arith;
-        begins = λ f l g. elim (decLe d 0xC1) [ yes h ↦ absurd (false≢true (sym y ∙ is-in (record { over = g; under = h }))) | no n ↦ omega arith ];
-        over = λ f l. absurd (false≢true (sym f ∙ x));
-        under = λ f l. absurd (false≢true (sym f ∙ x));
+        most = m;
+        begins = λ f l g.
+            let y : inRange d (0x80 to 0xC1) ≡ false = not-true (inRange d (0x80 to 0xC1)) (rw f at h) in
+            elim (decLe d 0xC1) [ yes o ↦ absurd (false≢true (sym y ∙ is-in (record { over = g; under = o }))) | no n ↦ omega arith ];
+        over = λ f l. in-range (low c) (high c) d (rw f at h) .over;
+        under = λ f l. in-range (low c) (high c) d (rw f at h) .under;
+        lead = e;
       }
 
-  pub stood-on : {lo hi : ℕ} {t u : Bool} → t ≡ free a b c → t ≡ false → lo ≡ low c → hi ≡ high c → u ≡ inRange d (lo to hi) → u ≡ true → r ≡ d → Stood a b c d r
-  stood-on {lo} {hi} p q j k v w e =
-      let i = in-range lo hi d (sym v ∙ w) in
-      let x : lo ≤ d = i .over in
-      let y : d ≤ hi = i .under in
-      record {
-        most = omega arith;
-        begins = λ f l g. absurd (false≢true (sym (sym p ∙ q) ∙ f));
-        over = λ f l. omega arith;
-        under = λ f l. omega arith;
-      }
+  pub stood-lead : {t : Bool} → t ≡ mayStand a b c d → not t ≡ false → d ≡ 0xE2 → r ≡ 0xF4 → Stood a b c d r
+  stood-lead {t} p q v e = stood (sym p ∙ not-false t q) (omega arith) (λ l g. absurd (omega arith))
+
+  pub stood-other : {t : Bool} → t ≡ mayStand a b c d → not t ≡ false → (d ≡ 0xE2 → ⊥) → r ≡ d → Stood a b c d r
+  stood-other {t} p q n e = stood (sym p ∙ not-false t q) (omega arith) (λ l g. n g)
 
   -- and no less for a larger number
   pub stood-up : {r′ : ℕ} → Stood a b c d r → r ≤ r′ → Stood a b c d r′
@@ -114,12 +125,13 @@ module _ {a b c d r : ℕ} where
         begins = λ f l. h .begins f (omega arith);
         over = λ f l. h .over f (omega arith);
         under = λ f l. h .under f (omega arith);
+        lead = λ l. h .lead (omega arith);
       }
 
-pub ruleset standing = (stood-none, stood-first, stood-on)
+pub ruleset standing = (stood-none, stood-lead, stood-other)
 
 -- ---- the block behind the three bytes from `at` on
-module _ (s : List ℕ) (at m : ℕ) (long : at + 35 ≤ length s) (top : m ≤ 0xF4) (stood : (k : ℕ) → k < 32 → Stood (getD s (at + k) 0) (getD s (at + k + 1) 0) (getD s (at + k + 2) 0) (getD s (at + k + 3) 0) m) where
+module _ (barred : Bool) (s : List ℕ) (at m : ℕ) (long : at + 35 ≤ length s) (top : m ≤ 0xF4) (clear : barred ≡ true → Clear s at) (stood : (k : ℕ) → k < 32 → Stood (getD s (at + k) 0) (getD s (at + k + 1) 0) (getD s (at + k + 2) 0) (getD s (at + k + 3) 0) m) where
   window : (p x y z : ℕ) → at ≤ p → p < at + 32 → x ≡ p + 1 → y ≡ p + 2 → z ≡ p + 3 → Stood (getD s p 0) (getD s x 0) (getD s y 0) (getD s z 0) m
   window p x y z g h i j k =
       let e : at + (p - at) ≡ p = omega arith in
@@ -148,7 +160,7 @@ module _ (s : List ℕ) (at m : ℕ) (long : at + 35 ≤ length s) (top : m ≤ 
 
   -- a character of w bytes begins behind the three bytes from p on and ends within the block, or what is whole ends before it
   data Next (p : ℕ) : Type 0 where
-    on : (w : ℕ) → 1 ≤ w → p + w ≤ at + 32 → free (getD s (p + w) 0) (getD s (p + w + 1) 0) (getD s (p + w + 2) 0) ≡ true → Passed s (p + 3) (p + 3 + w) → Next p
+    on : (w : ℕ) → 1 ≤ w → p + w ≤ at + 32 → free (getD s (p + w) 0) (getD s (p + w + 1) 0) (getD s (p + w + 2) 0) ≡ true → Passed (stops barred) s (p + 3) (p + 3 + w) → Next p
     stop : p + 3 ≡ at + 3 + size → Next p
 
   module _ (p : ℕ) (low-p : at ≤ p) (under : p < at + 32) (f : Free (getD s p 0) (getD s (p + 1) 0) (getD s (p + 2) 0)) where
@@ -159,7 +171,7 @@ module _ (s : List ℕ) (at m : ℕ) (long : at + 35 ≤ length s) (top : m ≤ 
     next-1 h =
         let e : p + 1 + 1 ≡ p + 2 = omega arith in
         let g : p + 1 + 2 ≡ p + 3 = omega arith in
-        on 1 (omega arith) (omega arith) (rw (e, g) (free-of (getD s (p + 1) 0) (getD s (p + 2) 0) (getD s (p + 3) 0) (omega (arith, f .second)) (omega (arith, f .third)) (omega arith))) (past-1 s (p + 3) (omega arith) h)
+        on 1 (omega arith) (omega arith) (rw (e, g) (free-of (getD s (p + 1) 0) (getD s (p + 2) 0) (getD s (p + 3) 0) (omega (arith, f .second)) (omega (arith, f .third)) (omega arith))) (past-1 barred s (p + 3) (omega arith) h)
 
     module _ (h : 0xC1 < getD s (p + 3) 0) where
       second : p < at + 31 → In (low (getD s (p + 3) 0)) (high (getD s (p + 3) 0)) (getD s (p + 4) 0)
@@ -200,7 +212,7 @@ module _ (s : List ℕ) (at m : ℕ) (long : at + 35 ≤ length s) (top : m ≤ 
           let j = second-in l in
           let y : getD s (p + 4) 0 ≤ 0xBF = j .under in
           on 2 (omega arith) (omega arith) (rw (e, e′) (free-of (getD s (p + 2) 0) (getD s (p + 3) 0) (getD s (p + 4) 0) (omega (arith, f .third)) (omega arith) (omega arith)))
-          (past-2 s (p + 3) (omega arith) (record { over = h; under = g }) (rw q j))
+          (past-2 barred s (p + 3) (omega arith) (record { over = h; under = g }) (rw q j))
 
       next-3 : 0xE0 ≤ getD s (p + 3) 0 → getD s (p + 3) 0 ≤ 0xEF → p < at + 30 → Next p
       next-3 g i l =
@@ -211,7 +223,7 @@ module _ (s : List ℕ) (at m : ℕ) (long : at + 35 ≤ length s) (top : m ≤ 
           let x : getD s (p + 4) 0 ≤ 0xBF = j .under in
           let y : getD s (p + 5) 0 ≤ 0xBF = k .under in
           on 3 (omega arith) (omega arith) (rw (e, e′) (free-of (getD s (p + 3) 0) (getD s (p + 4) 0) (getD s (p + 5) 0) (omega arith) (omega arith) (omega arith)))
-          (past-3 s (p + 3) (omega arith) (record { over = g; under = i }) (rw e (second (omega arith))) (rw e′ k))
+          (past-3 barred s (p + 3) (omega arith) (record { over = g; under = i }) (rw e (second (omega arith))) (rw e′ k) (λ b. rw (e, e′) (clear b p low-p l)))
 
       next-4 : 0xF0 ≤ getD s (p + 3) 0 → p < at + 29 → Next p
       next-4 g l =
@@ -228,7 +240,7 @@ module _ (s : List ℕ) (at m : ℕ) (long : at + 35 ≤ length s) (top : m ≤ 
           let z : getD s (p + 6) 0 ≤ 0xBF = o .under in
           let t : getD s (p + 3) 0 ≤ m = here .most in
           on 4 (omega arith) (omega arith) (rw (n, n′) (free-of (getD s (p + 4) 0) (getD s (p + 5) 0) (getD s (p + 6) 0) (omega arith) (omega arith) (omega arith)))
-          (past-4 s (p + 3) (omega arith) (record { over = g; under = omega (arith, top) }) (rw e (second (omega arith))) (rw e′ k) (rw e″ o))
+          (past-4 barred s (p + 3) (omega arith) (record { over = g; under = omega (arith, top) }) (rw e (second (omega arith))) (rw e′ k) (rw e″ o))
 
       stop-31 : p ≡ at + 31 → Next p
       stop-31 e = stop (omega (arith, size-31 p (omega arith) (omega arith)))
@@ -273,7 +285,7 @@ module _ (s : List ℕ) (at m : ℕ) (long : at + 35 ≤ length s) (top : m ≤ 
       let y : at + 32 + 2 ≡ at + 34 = omega arith in
       omega (arith, size-32 (rw (x, y) at (rw e at f)))
 
-  go : (n p : ℕ) → at + 32 ≤ n + p → at ≤ p → p ≤ at + 32 → free (getD s p 0) (getD s (p + 1) 0) (getD s (p + 2) 0) ≡ true → Passed s (at + 3) (p + 3) → Passed s (at + 3) (at + 3 + size)
+  go : (n p : ℕ) → at + 32 ≤ n + p → at ≤ p → p ≤ at + 32 → free (getD s p 0) (getD s (p + 1) 0) (getD s (p + 2) 0) ≡ true → Passed (stops barred) s (at + 3) (p + 3) → Passed (stops barred) s (at + 3) (at + 3 + size)
   go zero p g h i f w =
       let e = ends p (omega arith) (free-parts (getD s p 0) (getD s (p + 1) 0) (getD s (p + 2) 0) f) in rw e at w
   go (suc n) p g h i f w =
@@ -288,12 +300,12 @@ module _ (s : List ℕ) (at m : ℕ) (long : at + 35 ≤ length s) (top : m ≤ 
         ]
       ]
 
-  pub passed-wide : free (getD s at 0) (getD s (at + 1) 0) (getD s (at + 2) 0) ≡ true → Passed s (at + 3) (at + 3 + size)
+  pub passed-wide : free (getD s at 0) (getD s (at + 1) 0) (getD s (at + 2) 0) ≡ true → Passed (stops barred) s (at + 3) (at + 3 + size)
   passed-wide f = go 32 at (omega arith) (omega arith) (omega arith) f (passed-none (omega arith))
 
 -- as `search` takes it from what a need knows
-pub walk-wide : {s : List ℕ} {from at m n r : ℕ} {t : Bool} → at ≡ from - 3 → 3 ≤ from → 32 ≤ length s - from → t ≡ free (getD s at 0) (getD s (at + 1) 0) (getD s (at + 2) 0) → not t ≡ false → ((k : ℕ) → k < 32 → Stood (getD s (at + k) 0) (getD s (at + k + 1) 0) (getD s (at + k + 2) 0) (getD s (at + k + 3) 0) m) → m ≤ 0xF4 → n ≡ whole (getD s (at + 32) 0) (getD s (at + 33) 0) (getD s (at + 34) 0) → r ≡ from + n → Passed s from r
-walk-wide {s} {from} {at} {m} {n} {r} {t} e g l f x h k w q =
+pub walk-wide : {barred : Bool} {s : List ℕ} {from at m n r : ℕ} {t u : Bool} → at ≡ from - 3 → 3 ≤ from → 32 ≤ length s - from → t ≡ free (getD s at 0) (getD s (at + 1) 0) (getD s (at + 2) 0) → not t ≡ false → ((k : ℕ) → k < 32 → Stood (getD s (at + k) 0) (getD s (at + k + 1) 0) (getD s (at + k + 2) 0) (getD s (at + k + 3) 0) m) → m ≤ 0xF4 → (u ≡ false → barred ≡ true → Clear s at) → u ≡ false → n ≡ whole (getD s (at + 32) 0) (getD s (at + 33) 0) (getD s (at + 34) 0) → r ≡ from + n → Passed (stops barred) s from r
+walk-wide {barred} {s} {from} {at} {m} {n} {r} {t} e g l f x h k b y w q =
     let i : from ≡ at + 3 = omega arith in
-    let p = passed-wide s at m (omega arith) k h (sym f ∙ not-false t x) in
+    let p = passed-wide barred s at m (omega arith) k (b y) h (sym f ∙ not-false t x) in
     rw (q, w, i) p

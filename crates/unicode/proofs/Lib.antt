@@ -4,6 +4,8 @@ pub mod Encode
 pub mod Text
 pub mod Ascii
 pub mod Valid
+pub mod Direction
+pub mod Walks
 pub mod Reading
 pub mod Blocks
 pub mod Samples

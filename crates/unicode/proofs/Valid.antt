@@ -1,70 +1,34 @@
--- The longest well-formed beginning: how it goes on from a place, that it is well-formed and nothing longer is, and that the
--- well-formed texts are exactly the encodings of lists of scalar values.
+-- The longest well-formed beginning: it is well-formed and nothing longer is, and the well-formed texts are exactly the encodings of lists of scalar
+-- values.
 -- Assumes nothing.
-use Prim.Native.Nat.{ℕ, zero, suc, _+_, _≤_, _<_}
+use Prim.Native.Nat.{ℕ, _+_, _≤_, _<_}
 use native.Mathlib.Omega.{arith}
-use native.Mathlib.Nat.{add-zero}
 use mathlib.Core.Path.{_≡_, refl, ap, sym, _∙_}
 use mathlib.Core.Logic.{_↔_}
-use mathlib.Core.Bool.{true, cond}
+use mathlib.Core.Bool.{Bool, true, not, cond}
 use mathlib.Core.List.{List, [], _∷_, _++_, append-assoc, append-nil}
-use lib.ListN.{length, drop, take, getD, length-drop, length-append, take-append-drop}
-use lib.Seq.{drop-cons, drop-at, take-length, take-add, length-take-le, take-nil}
+use lib.ListN.{length, drop, take, length-drop, length-append, take-append-drop}
+use lib.Seq.{drop-at, take-length, take-add, length-take-le, take-nil}
 use lib.Dec.{ltb}
-use borrow.Author.Tests.{lt-ltb, le-ltb, ltb-true}
+use borrow.Author.Tests.{lt-ltb, ltb-true}
 use Rattle.lists.specs.All.{all}
 use Rattle.lists.proofs.Cut.{by-length}
 use Rattle.lists.proofs.Bools.{by-test, both}
-use Rattle.unicode.specs.Utf8.{first, chars, width, isChar, isScalar, encode, encodeAll, goodBytes, validUpTo, WellFormed, Encoded}
-use Rattle.unicode.specs.Text.{byteLength, left, Decoded}
-use Rattle.unicode.specs.Steps.{Point, Passed}
+use Rattle.unicode.specs.Utf8.{first, chars, width, isChar, isScalar, encode, encodeAll, bytesBefore, validUpTo, WellFormed, Encoded}
+use Rattle.unicode.specs.Text.{byteLength}
 use Rattle.unicode.proofs.First.{fine}
 use Rattle.unicode.proofs.Encode.{scalar, encode-long, back, forth}
-use Rattle.unicode.proofs.Text.{chars-nil, chars-first, left-end, point-at, decoded-point, bytes-chars}
-use Rattle.unicode.proofs.Rows.{first-1}
-
--- ---- from a place on
-valid-left : (s : List ℕ) (at : ℕ) → validUpTo (drop at s) ≡ goodBytes (left s at)
-unfolding validUpTo
-valid-left s at = refl
-
-pub valid-more : {s : List ℕ} {at code wide : ℕ} → Point s at code wide → code < 1114112 → validUpTo (drop at s) ≡ wide + validUpTo (drop (at + wide) s)
-unfolding goodBytes
-valid-more {s} {at} {code} {wide} c h =
-    valid-left s at ∙ rw (c .view, lt-ltb code 1114112 h, ← c .size, valid-left s (at + wide))
-
-pub valid-stop : {s : List ℕ} {at code wide : ℕ} → Point s at code wide → 1114112 ≤ code → validUpTo (drop at s) ≡ 0
-unfolding goodBytes
-valid-stop {s} {at} {code} {wide} c h = valid-left s at ∙ rw (c .view, le-ltb code 1114112 h)
-
-pub valid-end : (s : List ℕ) (at : ℕ) → length s ≤ at → validUpTo (drop at s) ≡ 0
-unfolding goodBytes
-valid-end s at h = valid-left s at ∙ rw (left-end s at h)
-
--- ASCII, byte by byte
-pub ascii-point : (s : List ℕ) (at : ℕ) → at < length s → getD s at 0 < 0x80 → Point s at (getD s at 0) 1
-ascii-point s at h k =
-    let e : first (drop at s) ≡ (getD s at 0, 1) = rw (drop-cons s at 0 h) (first-1 (getD s at 0) (drop (suc at) s) (omega arith)) in
-    rw e at (point-at s at h)
-
-pub valid-ascii : (n : ℕ) (s : List ℕ) (at : ℕ) → at + n ≤ length s → ((k : ℕ) → k < n → getD s (at + k) 0 < 0x80) → validUpTo (drop at s) ≡ n + validUpTo (drop (at + n) s)
-valid-ascii zero s at l h = rw (add-zero at) (omega arith)
-valid-ascii (suc n) s at l h =
-    let b : getD s at 0 < 0x80 = rw (add-zero at) at (h 0 (omega arith)) in
-    let e : at + 1 + n ≡ at + suc n = omega arith in
-    let ih : validUpTo (drop (at + 1) s) ≡ n + validUpTo (drop (at + suc n) s) =
-    rw e at (valid-ascii n s (at + 1) (omega arith) (λ k i. let f : at + suc k ≡ at + 1 + k = omega arith in rw f at (h (suc k) (omega arith)))) in
-    valid-more (ascii-point s at (omega arith) b) (omega arith) ∙ omega (arith, ih)
+use Rattle.unicode.proofs.Text.{chars-nil, chars-first, bytes-chars}
 
 -- ---- the encodings of scalar values are well-formed
-valid-nil : validUpTo [] ≡ 0
-unfolding validUpTo goodBytes
+pub valid-nil : validUpTo [] ≡ 0
+unfolding validUpTo bytesBefore
 valid-nil = rw chars-nil
 
-good-within : (l : List ℕ) → goodBytes l ≤ byteLength l
-unfolding goodBytes byteLength
-good-within [] = omega arith
-good-within (c ∷ l) = by-test (isChar c) (λ h. rw h (omega (arith, good-within l))) (λ h. rw h (omega arith))
+before-within : (p : ℕ → Bool) (l : List ℕ) → bytesBefore p l ≤ byteLength l
+unfolding bytesBefore byteLength
+before-within p [] = omega arith
+before-within p (c ∷ l) = by-test (p c) (λ h. rw h (omega arith)) (λ h. rw h (omega (arith, before-within p l)))
 
 pub width-some : (c : ℕ) → 1 ≤ width c
 unfolding width
@@ -91,7 +55,7 @@ read-back (c ∷ cs) s h =
 
 -- and every byte of it counts
 pub valid-encoded : (cs s : List ℕ) → all isScalar cs ≡ true → validUpTo (encodeAll cs ++ s) ≡ length (encodeAll cs) + validUpTo s
-unfolding all encodeAll validUpTo goodBytes
+unfolding all encodeAll validUpTo bytesBefore
 valid-encoded [] s h = omega arith
 valid-encoded (c ∷ cs) s h =
     let p = both (isScalar c) (all isScalar cs) h in
@@ -119,7 +83,7 @@ unfolding good all encodeAll
 begin-none = record { scalars = rw chars-nil; written = rw chars-nil (sym (take-nil (validUpTo []))) }
 
 begin-one : (a : ℕ) (s : List ℕ) → ((l : List ℕ) → length l ≤ length s → Beginning l) → Beginning (a ∷ s)
-unfolding good all encodeAll validUpTo goodBytes
+unfolding good all encodeAll validUpTo bytesBefore
 begin-one a s ih =
     let x = first (a ∷ s) .0 in
     let w = first (a ∷ s) .1 in
@@ -141,7 +105,7 @@ beginning = by-length Beginning begin-none begin-one
 
 pub valid-within : (s : List ℕ) → validUpTo s ≤ length s
 unfolding validUpTo
-valid-within s = omega (arith, good-within (chars s), bytes-chars s)
+valid-within s = omega (arith, before-within (λ c. not (isChar c)) (chars s), bytes-chars s)
 
 -- ---- the longest well-formed beginning is well-formed, and nothing longer is
 pub longest-well-formed : (s : List ℕ) → WellFormed (take (validUpTo s) s)
@@ -179,32 +143,3 @@ encode-bytes (c ∷ t) h =
 
 pub read-all : (l : List ℕ) → all isScalar l ≡ true → chars (encodeAll l) ≡ l
 read-all l h = ap chars (sym (append-nil (encodeAll l))) ∙ read-back l [] h ∙ ap (λ (y : List ℕ). l ++ y) chars-nil ∙ append-nil l
-
--- ---- the walks over what is well-formed
-pub passed-none : {s : List ℕ} {at : ℕ} → at ≤ length s → Passed s at at
-passed-none h = record { after = omega arith; within = h; same = refl }
-
-pub passed-then : {s : List ℕ} {from at end : ℕ} → Passed s from at → Passed s at end → Passed s from end
-passed-then p q = record { after = omega arith; within = q .within; same = p .same ∙ q .same }
-
-pub passed-char : {s : List ℕ} {at code wide at′ : ℕ} → Point s at code wide → code < 1114112 → at′ ≡ at + wide → Passed s at at′
-passed-char c h e = rw e (record { after = omega arith; within = c .within; same = omega (arith, valid-more c h) })
-
-pub passed-block : {s : List ℕ} {at at′ n : ℕ} → at + n ≤ length s → ((k : ℕ) → k < n → getD s (at + k) 0 < 0x80) → at′ ≡ at + n → Passed s at at′
-passed-block {s} {at} {at′} {n} l h e = rw e (record { after = omega arith; within = l; same = omega (arith, valid-ascii n s at l h) })
-
--- as `search` takes them from what a need knows
-pub walk-on : {s : List ℕ} {from at at′ code wide : ℕ} → Passed s from at → Decoded s at code wide → at < length s → code < 1114112 → at′ ≡ at + wide → Passed s from at′
-walk-on p d l h e = passed-then p (passed-char (decoded-point d l) h e)
-
-pub walk-stop : {s : List ℕ} {at code wide : ℕ} → Decoded s at code wide → at < length s → 1114112 ≤ code → validUpTo (drop at s) ≡ 0
-walk-stop d l h = valid-stop (decoded-point d l) h
-
-pub walk-block : {s : List ℕ} {from at at′ m n : ℕ} → Passed s from at → ((k : ℕ) → k < n → getD s (at + k) 0 ≤ m) → at + n ≤ length s → m ≤ 0x7F → at′ ≡ at + n → Passed s from at′
-walk-block p h l g e = passed-then p (passed-block l (λ k i. omega (arith, h k i)) e)
-
-pub walked : {s : List ℕ} {at : ℕ} → Passed s 0 at → validUpTo (drop at s) ≡ 0 → at ≡ validUpTo s
-walked p h = omega (arith, p .same)
-
-pub walked-all : {s : List ℕ} {at : ℕ} → Passed s 0 at → length s ≤ at → at ≡ validUpTo s
-walked-all {s} {at} p h = walked p (valid-end s at h)

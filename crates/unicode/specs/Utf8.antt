@@ -2,7 +2,7 @@
 -- Every list of bytes has a reading: a byte that begins no well-formed sequence is read as no character, one byte wide.
 -- Assumes nothing.
 use mathlib.Core.Path.{_≡_}
-use mathlib.Core.Bool.{Bool, true, false, _&&_, _||_, cond}
+use mathlib.Core.Bool.{Bool, true, false, _&&_, _||_, not, cond}
 use mathlib.Core.List.{List, [], _∷_, _++_}
 use mathlib.Core.Option.{Option, none, some}
 use Prim.Native.Nat.{ℕ, zero, suc, _+_, _-_, _*_, _/_, _%_}
@@ -105,13 +105,14 @@ encodeAll [] = []
 encodeAll (c ∷ t) = encode c ++ encodeAll t
 
 -- ---- the longest well-formed beginning
--- the bytes of the characters before the first that is none
-unfoldable pub goodBytes : List ℕ → ℕ
-goodBytes [] = 0
-goodBytes (c ∷ t) = cond (isChar c) (width c + goodBytes t) 0
+-- the bytes of the characters before the first that p holds of
+unfoldable pub bytesBefore : (ℕ → Bool) → List ℕ → ℕ
+bytesBefore p [] = 0
+bytesBefore p (c ∷ t) = cond (p c) 0 (width c + bytesBefore p t)
 
+-- those before the first that is no character
 unfoldable pub validUpTo : List ℕ → ℕ
-validUpTo s = goodBytes (chars s)
+validUpTo s = bytesBefore (λ c. not (isChar c)) (chars s)
 
 -- a text is well-formed where that is all of it
 abbrev pub WellFormed : List ℕ → Type 0

@@ -1,11 +1,13 @@
-// UTF-8 after the Unicode Standard, Table 3-7, "Well-Formed UTF-8 Byte Sequences".
+// UTF-8 after the Unicode Standard, Table 3-7, "Well-Formed UTF-8 Byte Sequences", and where a text holds a direction mark.
 ghost use mathlib.Core.Path.{_≡_};
+ghost use mathlib.Core.Bool.{true, false, cond};
 ghost use Prim.Native.Nat.{ℕ, _+_, _≤_, _<_, min};
 ghost use lib.ListN.{length, getD, drop};
 ghost use Rattle.unicode.specs.Ranges.{_to_, inRange};
-ghost use Rattle.unicode.specs.Utf8.{first, noChar, validUpTo};
-ghost use Rattle.unicode.specs.Steps.{Reads, low, high, two, three, four, free, Stood, whole, Passed};
-ghost use Rattle.unicode.specs.Text.{Decoded};
+ghost use Rattle.unicode.specs.Utf8.{first, chars, noChar, bytesBefore, validUpTo};
+ghost use Rattle.unicode.specs.Direction.{isDirection, cleanUpTo};
+ghost use Rattle.unicode.specs.Steps.{Reads, low, high, two, three, four, free, mayStand, Stood, whole, second, spells, Clear, stops, Passed, Plain};
+ghost use Rattle.unicode.specs.Text.{Decoded, left};
 
 // Where the numbers begin that are no characters.
 pub const NO_CHAR: u32 = 1114112;
@@ -181,7 +183,7 @@ fn top(text: &[u8], at: usize) -> u8
 // Past each block of 32 bytes that is all ASCII, from a place on.
 fn skip_blocks(text: &[u8], from: usize) -> usize
     requires { ⌜ from ≤ length (now text) ⌝ }
-    ensures { λ r. ⌜ Passed (now (text .entry)) from r ⌝ }
+    ensures { λ r. ⌜ Plain (now (text .entry)) from r ⌝ }
 {
     let mut at = from;
     while BLOCK <= text.len() - at {
@@ -206,21 +208,26 @@ fn is_free(a: u8, b: u8, c: u8) -> bool
     a < 0xF0
 }
 
-// What a byte d counts for behind a, b and c: where it may not stand there, more than F4.
+// Whether a byte d may stand behind a, b and c: where no character reaches there as the first of one, if it is no larger than F4, and else as the next
+// of one.
+fn fits(a: u8, b: u8, c: u8, d: u8) -> bool
+    ensures { λ r. ⌜ r ≡ mayStand a b c d ⌝ }
+{
+    if is_free(a, b, c) {
+        return !in_range(0x80, 0xC1, d);
+    }
+    in_range(low_of(c), high_of(c), d)
+}
+
+// What a byte d counts for behind a, b and c: where it may not stand there, more than F4; and E2, which begins the direction marks, counts for F4, so
+// that a smaller number tells that none is there.
 fn stand(a: u8, b: u8, c: u8, d: u8) -> u8
     ensures { λ r. ⌜ Stood a b c d r ⌝ }
 {
-    if is_free(a, b, c) {
-        if in_range(0x80, 0xC1, d) {
-            return 255;
-        }
-        return d;
+    if !fits(a, b, c, d) {
+        return 255;
     }
-    if in_range(low_of(c), high_of(c), d) {
-        d
-    } else {
-        255
-    }
+    if d == 0xE2 { 0xF4 } else { d }
 }
 
 // The largest of what the 32 bytes behind the first three from a place on count for, each behind the three before it: a loop that compiles to vector
@@ -259,11 +266,64 @@ fn whole_of(b: u8, c: u8, d: u8) -> usize
     if 0xF0 <= b { 29 } else { 32 }
 }
 
-// Past a block of 32 bytes that is well-formed, to the end of its last whole character; else nowhere. The three bytes before it
-// are asked first: no character may reach from there into the block.
-fn skip_wide(text: &[u8], from: usize) -> usize
+// The second byte of the direction mark whose third is c; 0 for no mark.
+fn second_of(c: u8) -> u8
+    ensures { λ r. ⌜ r ≡ second c ⌝ }
+{
+    if in_range(0xAA, 0xAE, c) {
+        return 0x80;
+    }
+    if in_range(0xA6, 0xA9, c) { 0x81 } else { 0 }
+}
+
+// 1 where three bytes, if they are well-formed, are a direction mark.
+fn mark(a: u8, b: u8, c: u8) -> u8
+    ensures { λ r. ⌜ r ≡ cond (spells a b c) 1 0 ⌝ }
+{
+    if b == second_of(c) {
+        if a == 0xE2 { 1 } else { 0 }
+    } else {
+        0
+    }
+}
+
+// At least 1 where a direction mark begins at one of the 32 bytes from a place on: a loop that compiles to vector instructions.
+fn marks(text: &[u8], at: usize) -> u8
+    requires { ⌜ at + 34 ≤ length (now text) ⌝ }
+    ensures { λ r. ⌜ ((k : ℕ) → k < 32 → cond (spells (getD (now (text .entry)) (at + k) 0) (getD (now (text .entry)) (at + k + 1) 0) (getD (now (text .entry)) (at + k + 2) 0)) 1 0 ≤ r) ⌝ }
+{
+    let mut m: u8 = 0;
+    let mut i: usize = 0;
+    while i < BLOCK {
+        let v = mark(text[at + i], text[at + i + 1], text[at + i + 2]);
+        if m < v {
+            m = v;
+        }
+        i = i + 1;
+    }
+    m
+}
+
+// Whether a direction mark stands in the 32 bytes behind the first three from a place on, and they are barred. `most` is the largest of what the 32 count
+// for: they are looked through only where one of them may begin a mark.
+fn has_barred(text: &[u8], at: usize, most: u8, barred: bool) -> bool
+    requires { ⌜ (at + 35 ≤ length (now text)) × ((k : ℕ) → k < 32 → most < 0xF4 → getD (now text) (at + k + 3) 0 ≡ 0xE2 → ⊥) ⌝ }
+    ensures { λ r. ⌜ (r ≡ false → barred ≡ true → Clear (now (text .entry)) at) ⌝ }
+{
+    if !barred {
+        return false;
+    }
+    if most < 0xF4 {
+        return false;
+    }
+    0 < marks(text, at + 1)
+}
+
+// Past a block of 32 bytes that is well-formed, to the end of its last whole character; else nowhere, nor where a direction mark stands in it and they
+// are barred. The three bytes before it are asked first: no character may reach from there into the block.
+fn skip_wide(text: &[u8], from: usize, barred: bool) -> usize
     requires { ⌜ from ≤ length (now text) ⌝ }
-    ensures { λ r. ⌜ Passed (now (text .entry)) from r ⌝ }
+    ensures { λ r. ⌜ Passed (stops barred) (now (text .entry)) from r ⌝ }
 {
     if from < 3 {
         return from;
@@ -275,16 +335,46 @@ fn skip_wide(text: &[u8], from: usize) -> usize
     if !is_free(text[at], text[at + 1], text[at + 2]) {
         return from;
     }
-    if 0xF4 < stands(text, at) {
+    let most = stands(text, at);
+    if 0xF4 < most {
+        return from;
+    }
+    if has_barred(text, at, most, barred) {
         return from;
     }
     from + whole_of(text[at + 32], text[at + 33], text[at + 34])
 }
 
-// Character by character to `stop` or past it, or to the first that is none.
-fn skip_chars(text: &[u8], from: usize, stop: usize) -> usize
+// Whether a character is one of the nine direction marks.
+fn is_direction(c: u32) -> bool
+    ensures { λ r. ⌜ r ≡ isDirection c ⌝ }
+{
+    if c < 0x202A {
+        return false;
+    }
+    if c <= 0x202E {
+        return true;
+    }
+    if c < 0x2066 {
+        return false;
+    }
+    c <= 0x2069
+}
+
+// Whether a character stops the walk: what is none, and a direction mark where they are barred.
+fn is_stop(c: u32, barred: bool) -> bool
+    ensures { λ r. ⌜ r ≡ stops barred c ⌝ }
+{
+    if barred & is_direction(c) {
+        return true;
+    }
+    NO_CHAR <= c
+}
+
+// Character by character to `stop` or past it, or to the first that stops the walk.
+fn skip_chars(text: &[u8], from: usize, stop: usize, barred: bool) -> usize
     requires { ⌜ (from ≤ length (now text)) × (stop ≤ length (now text)) ⌝ }
-    ensures { λ r. ⌜ (Passed (now (text .entry)) from r) × (r < stop → validUpTo (drop r (now (text .entry))) ≡ 0) ⌝ }
+    ensures { λ r. ⌜ (Passed (stops barred) (now (text .entry)) from r) × (r < stop → bytesBefore (stops barred) (left (now (text .entry)) r) ≡ 0) ⌝ }
 {
     let mut at = from;
     while at < stop {
@@ -292,7 +382,7 @@ fn skip_chars(text: &[u8], from: usize, stop: usize) -> usize
             at = at + 1;
         } else {
             let c = decode_wide(text, at);
-            if NO_CHAR <= c.code {
+            if is_stop(c.code, barred) {
                 return at;
             }
             at = at + c.wide;
@@ -313,20 +403,20 @@ fn next_stop(from: usize, end: usize) -> usize
     }
 }
 
-// The length of the longest well-formed beginning: by blocks of ASCII, by blocks of any characters where there is none, and where there is neither,
-// by characters until blocks are tried again.
-pub fn valid_up_to(text: &[u8]) -> usize
-    ensures { λ r. ⌜ r ≡ validUpTo (now (text .entry)) ⌝ }
+// The bytes before the first character that stops the walk: by blocks of ASCII, by blocks of any characters where there is none, and where there is
+// neither, by characters until blocks are tried again.
+fn walk(text: &[u8], barred: bool) -> usize
+    ensures { λ r. ⌜ r ≡ bytesBefore (stops barred) (chars (now (text .entry))) ⌝ }
 {
     let mut at = 0;
     while at < text.len() {
         let from = skip_blocks(text, at);
-        let wide = skip_wide(text, from);
+        let wide = skip_wide(text, from, barred);
         if from < wide {
             at = wide;
         } else {
             let stop = next_stop(from, text.len());
-            let end = skip_chars(text, from, stop);
+            let end = skip_chars(text, from, stop, barred);
             if end < stop {
                 return end;
             }
@@ -334,4 +424,18 @@ pub fn valid_up_to(text: &[u8]) -> usize
         }
     }
     at
+}
+
+// The length of the longest well-formed beginning.
+pub fn valid_up_to(text: &[u8]) -> usize
+    ensures { λ r. ⌜ r ≡ validUpTo (now (text .entry)) ⌝ }
+{
+    walk(text, false)
+}
+
+// The bytes before the first fault: a byte that is not UTF-8, or one of the nine direction marks.
+pub fn clean_up_to(text: &[u8]) -> usize
+    ensures { λ r. ⌜ r ≡ cleanUpTo (now (text .entry)) ⌝ }
+{
+    walk(text, true)
 }

@@ -6,11 +6,11 @@ use Rattle.text.proofs.check_cut.Tie as tie
 returns : tie.Need-returns
 returns c = search (needs, cut-unknown, cut-known)
 
-check-text-requires : tie.Need-check-text-requires
-check-text-requires c κs = search needs
+check-clean-requires : tie.Need-check-clean-requires
+check-clean-requires c κs = search needs
 
 returns-2 : tie.Need-returns-2
 returns-2 c = search (needs, cut-unknown, cut-known)
 
 pub check-cut-spec : {M : Type 1} → statement M
-check-cut-spec = tie.close (tie.spec returns check-text-requires returns-2)
+check-cut-spec = tie.close (tie.spec returns check-clean-requires returns-2)

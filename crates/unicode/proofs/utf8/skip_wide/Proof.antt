@@ -1,6 +1,6 @@
 use borrow.Author.Needs.{needs}
 use Rattle.unicode.proofs.Blocks.{walk-wide}
-use Rattle.unicode.proofs.Valid.{passed-none}
+use Rattle.unicode.proofs.Walks.{passed-none}
 use Rattle.unicode.proofs.utf8.skip_wide.Statement.{statement}
 use Rattle.unicode.proofs.utf8.skip_wide.Tie as tie
 
@@ -40,6 +40,12 @@ stands-requires c κs = search needs
 returns-4 : tie.Need-returns-4
 returns-4 c = passed-none (search needs)
 
+has-barred-requires : tie.Need-has-barred-requires
+has-barred-requires c κs = (search needs, λ k h. c .before .stands .ensures k h .lead)
+
+returns-5 : tie.Need-returns-5
+returns-5 c = passed-none (search needs)
+
 add-whole-of : tie.Need-add-whole-of
 add-whole-of c = search needs
 
@@ -64,8 +70,8 @@ whole-of-requires c κs = search needs
 add-result : tie.Need-add-result
 add-result c = search needs
 
-returns-5 : tie.Need-returns-5
-returns-5 c = search (needs, walk-wide)
+returns-6 : tie.Need-returns-6
+returns-6 c = search (needs, walk-wide)
 
 pub skip-wide-spec : {M : Type 1} → statement M
 skip-wide-spec =
@@ -83,6 +89,8 @@ skip-wide-spec =
     returns-3
     stands-requires
     returns-4
+    has-barred-requires
+    returns-5
     add-whole-of
     shared-slice-read-whole-of
     add-whole-of-2
@@ -91,4 +99,4 @@ skip-wide-spec =
     shared-slice-read-whole-of-3
     whole-of-requires
     add-result
-    returns-5)
+    returns-6)
