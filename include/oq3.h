@@ -49,11 +49,11 @@ typedef struct oq3_answer {
 } oq3_answer;
 
 enum {
-    /* 7 is for what lists tokens, makes keys or compares: those characters are not seen, and set or end the direction of what is */
     OQ3_DONE = 0,             /* done; also: how many records or key bytes were written, or the function's own value */
     OQ3_UNKNOWN_SELECTOR = 1, /* no such profile, mode or error; also: 0 */
     OQ3_TOO_LONG = 2,         /* the text has more than OQ3_LONGEST bytes; also: 0 */
     OQ3_NOT_UTF8 = 3,         /* the text is not UTF-8; also: the length of its longest well-formed beginning, in bytes */
+    /* for what lists tokens, makes keys or compares; such characters are not seen, and set or end the direction of what is */
     OQ3_DIRECTION_MARK = 7,   /* the text holds one of U+202A to U+202E or U+2066 to U+2069; also: the byte place of the first */
     OQ3_ROOM_TOO_SMALL = 4    /* there is too little room; also: how many records or key bytes are needed */
 };

@@ -9,8 +9,8 @@ The Rust knows nothing of direction marks: where it cuts a text that holds one, 
 
 RELEASE and DEBUG are the program that answers cases with the crate, built without and with debug assertions; ANSWERS is
 target/bin/answers. Every text of at most N pieces of the alphabet is compared (--short), then random texts of several sorts,
-and damaged ones; with --digits there are no others, and --short, --random and --seed do nothing. Exit status 1 if an answer differs;
-the first few that do are printed.
+and damaged ones, whole programs of DIR and damaged parts of them among them (not with --marks and --bodies); with --digits there are no others, and
+--short, --random and --seed do nothing. Exit status 1 if an answer differs; the first few that do are printed.
 """
 import argparse
 import itertools

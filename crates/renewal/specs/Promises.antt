@@ -1,4 +1,4 @@
--- What `renewal_key` answers, and what it leaves in the memory that it was lent.
+-- What `renewal_key` answers, and what it leaves in the memory that it was lent; and that a changed text keeps the key.
 -- Assumes nothing.
 use Prim.Native.Nat.{ℕ}
 use mathlib.Core.Path.{_≡_}

@@ -87,7 +87,7 @@ four a b c d =
 abbrev pub free : ℕ → ℕ → ℕ → Bool
 free a b c = ltb c 0xC0 && (ltb b 0xE0 && ltb a 0xF0)
 
--- d may stand behind a, b and c: as the first byte of a character, if it is no larger than F4, or as the next byte of one
+-- d may stand behind a, b and c: as the first byte of a character, of which F5 to FF are told by their size, or as the next byte of one
 unfoldable pub mayStand : ℕ → ℕ → ℕ → ℕ → Bool
 mayStand a b c d = cond (free a b c) (not (inRange d (0x80 to 0xC1))) (inRange d (low c to high c))
 

@@ -208,8 +208,8 @@ fn is_free(a: u8, b: u8, c: u8) -> bool
     a < 0xF0
 }
 
-// Whether a byte d may stand behind a, b and c: where no character reaches there as the first of one, if it is no larger than F4, and else as the next
-// of one.
+// Whether a byte d may stand behind a, b and c: where no character reaches there as the first of one, but that its size tells F5 to FF, and else as the
+// next of one.
 fn fits(a: u8, b: u8, c: u8, d: u8) -> bool
     ensures { λ r. ⌜ r ≡ mayStand a b c d ⌝ }
 {
