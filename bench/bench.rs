@@ -20,7 +20,7 @@ extern "C" {
 }
 
 // how many words a token and an item have in the port's lists
-const WORDS: usize = 3;
+const WORDS: usize = 4;
 const ITEM_WORDS: usize = 3;
 
 // ---- tokens: the check for UTF-8, and the tokens collected
@@ -201,7 +201,15 @@ impl What {
     fn want(&self, text: &[u8]) -> Vec<u32> {
         let s = std::str::from_utf8(text).unwrap();
         match self {
-            What::Tokens => oracle::tokens(s).iter().flat_map(|t| [t.0, t.1, t.2]).collect(),
+            What::Tokens => {
+                let mut end = 0;
+                let mut words = |t: &(u32, u32, u32)| {
+                    let start = end;
+                    end += t.1;
+                    [t.0, t.1, t.2, start]
+                };
+                oracle::tokens(s).iter().flat_map(|t| words(t)).collect()
+            }
             What::Key => oracle::key_of(text, &oracle::tokens(s), false).iter().map(|&b| b as u32).collect(),
             What::Bodies(mode) => oracle::unescape_items(s, *mode).iter().flat_map(|t| [t.0, t.1, t.2]).collect(),
         }

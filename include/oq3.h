@@ -139,17 +139,18 @@ enum {
 };
 
 /*
- * A record of the list of tokens. The tokens tile the text: the first starts at 0, each next one where the one before it ends, and
- * each has at least one byte.
+ * A record of the list of tokens. The tokens tile the text: the first starts at 0, each next one where the one before it ends, the last ends
+ * where the text does, and each has at least one byte.
  */
 typedef struct oq3_token {
     uint32_t kind;
     uint32_t length; /* in bytes */
     uint32_t suffix; /* of a literal: where its suffix starts, from the token's first byte, `length` where it has none; else 0 */
+    uint32_t start;  /* where it starts in the text, in bytes: the lengths of all before it, added up */
 } oq3_token;
 
 /* How many words a record of a token has, and one of an item of a body. */
-enum { OQ3_WORDS = 3, OQ3_ITEM_WORDS = 3 };
+enum { OQ3_WORDS = 4, OQ3_ITEM_WORDS = 3 };
 
 /*
  * The tokens of a text: OQ3_WORDS words for each, in order, from list[0] on. `words` is the room. Refuses with 1, 2, 3, 7 and 4.

@@ -3,7 +3,8 @@
 task oqlist with no word, which is held to profile 1, with the words 0 and 1, and with one that asks for none; with --marks, either on texts of
 direction marks and what stands near them; or, with --bodies, the tasks unescape in all seven modes, char and byte, on bodies of literals; or, with
 --digits, the task unescape in modes 1 and 4 on escapes by number, with every pair of characters of ASCII and every scalar value as a digit.
-The Rust knows nothing of direction marks: where it cuts a text that holds one, 7 is wanted, with the place of the first.
+The Rust knows nothing of direction marks: where it cuts a text that holds one, 7 is wanted, with the place of the first. It says no token's start:
+the lengths before it, added up, are wanted.
 
     tools/compare.py RELEASE DEBUG ANSWERS [[--listings] [--marks] | --bodies | --digits] [--short N] [--random N] [--seed S] [--programs DIR]
 
@@ -188,13 +189,22 @@ def barred(text, answer):
     return answer if place is None else b"7 %d" % len(chars[:place].encode())
 
 
+def started(answer):
+    """The same with where each token starts, the lengths before it added up: the Rust says no place."""
+    number, also, *records = answer.split(b" ")
+    if number != b"0":
+        return answer
+    starts = itertools.accumulate((int(record.split(b",")[1]) for record in records), initial=0)
+    return b" ".join([number, also] + [b"%s,%d" % pair for pair in zip(records, starts)])
+
+
 def wanted(options, task, oracle, batch):
     """What the answers are held to."""
     if oracle is None:
         return [b"refused 1 0"] * len(batch)
     said = answers(oracle, task, batch)
     if task.startswith(b"tok"):
-        said = [barred(t, a) for t, a in zip(batch, said)]
+        said = [started(barred(t, a)) for t, a in zip(batch, said)]
     return [listing(t, a) for t, a in zip(batch, said)] if options.listings else said
 
 

@@ -20,7 +20,7 @@ void *mmap(void *, size_t, int, int, int, long);
 /* the layouts that the archive has */
 typedef char answer_16[sizeof(oq3_answer) == 16 && offsetof(oq3_answer, also) == 8 ? 1 : -1];
 typedef char char_16[sizeof(oq3_char) == 16 && offsetof(oq3_char, wide) == 8 ? 1 : -1];
-typedef char records[sizeof(oq3_token) == 4 * OQ3_WORDS && sizeof(oq3_item) == 4 * OQ3_ITEM_WORDS ? 1 : -1];
+typedef char records[sizeof(oq3_token) == 4 * OQ3_WORDS && offsetof(oq3_token, start) == 12 && sizeof(oq3_item) == 4 * OQ3_ITEM_WORDS ? 1 : -1];
 /* a list with room for so many tokens has it for so many items */
 typedef char items_fit[OQ3_ITEM_WORDS <= OQ3_WORDS ? 1 : -1];
 typedef char sight_24[sizeof(oq3_sight) == 24 && offsetof(oq3_sight, start) == 8 && offsetof(oq3_sight, length) == 16 ? 1 : -1];
@@ -78,25 +78,23 @@ static oq3_answer tokenize_rows(const uint8_t *text, size_t len, uint32_t profil
     return oq3_tokenize_rows(text, len, profile, (oq3_token *)into, room / OQ3_WORDS);
 }
 
-/* the list in every kind of room: too small by a word and by all, as small as can be, with a part of a record behind, and plenty */
+/* the list in a room of so many words */
+static bool fills_in(size_t room, filler *f, const uint8_t *text, size_t len, uint32_t selector, const uint32_t *want, size_t n, size_t need) {
+    bool enough = need <= room;
+    oq3_answer a;
+    fresh();
+    a = f(text, len, selector, room == 0 ? NULL : list, room);
+    return is(a, enough ? OQ3_DONE : OQ3_ROOM_TOO_SMALL, n) && clean(enough ? need : 0, 0) && (!enough || memcmp(list, want, 4 * need) == 0);
+}
+
+/* the list in every kind of room: too small by a word to a record and by all, as small as can be, with a part of a record behind, and plenty */
 static bool fills(filler *f, size_t width, const uint8_t *text, size_t len, uint32_t selector, const uint32_t *want, size_t n) {
-    size_t need = width * n, room[6], i;
+    size_t need = width * n, i;
     bool good = true;
-    room[0] = 0;
-    room[1] = need == 0 ? 0 : need - 1;
-    room[2] = need;
-    room[3] = need + 2;
-    room[4] = width * len;
-    room[5] = width * (len + 2);
-    for (i = 0; i < 6; i++) {
-        bool enough = need <= room[i];
-        oq3_answer a;
-        fresh();
-        a = f(text, len, selector, room[i] == 0 ? NULL : list, room[i]);
-        good = good && is(a, enough ? OQ3_DONE : OQ3_ROOM_TOO_SMALL, n);
-        good = good && clean(enough ? need : 0, 0) && (!enough || memcmp(list, want, 4 * need) == 0);
-    }
-    return good;
+    for (i = 0; i <= width; i++)
+        good = good && fills_in(need < i ? 0 : need - i, f, text, len, selector, want, n, need) && fills_in(need + i, f, text, len, selector, want, n, need);
+    return good && fills_in(0, f, text, len, selector, want, n, need) && fills_in(width * len, f, text, len, selector, want, n, need)
+           && fills_in(width * (len + 2), f, text, len, selector, want, n, need);
 }
 
 typedef struct sample {
@@ -111,29 +109,29 @@ typedef struct sample {
 
 static const sample tokens[] = {
     {"", 0, 0, {0}},
-    {"\"\"", 0, 1, {59, 2, 2}},
-    {"\"0\n\"", 0, 1, {57, 4, 4}},
-    {"\"0\n", 0, 1, {58, 3, 3}},
-    {"$_", 0, 1, {24, 2, 0}},
-    {"0b102", 0, 1, {40, 5, 5}},
-    {"1e", 0, 1, {53, 2, 2}},
-    {"1.e5", 0, 1, {52, 4, 2}},
-    {"1._5", 0, 1, {52, 4, 2}},
-    {"0B1", 0, 1, {44, 3, 1}},
-    {"/*/**/", 0, 1, {3, 6, 0}},
-    {"pragma", 0, 1, {5, 6, 0}},
-    {"pragma", 1, 1, {8, 6, 0}},
-    {"pragma x\ny", OQ3_DEFAULT_PROFILE, 3, {OQ3_KIND_PRAGMA, 8, 0, OQ3_KIND_WHITESPACE, 1, 0, OQ3_KIND_IDENT, 1, 0}},
-    {"pragmatic x", OQ3_DEFAULT_PROFILE, 1, {OQ3_KIND_PRAGMA, 11, 0}},
-    {"#pragma x", OQ3_DEFAULT_PROFILE, 1, {OQ3_KIND_PRAGMA, 9, 0}},
-    {"// pragma", OQ3_DEFAULT_PROFILE, 1, {OQ3_KIND_LINE_COMMENT, 9, 0}},
-    {"pragma x", OQ3_PROFILE_RELEASE, 3, {OQ3_KIND_IDENT, 6, 0, OQ3_KIND_WHITESPACE, 1, 0, OQ3_KIND_IDENT, 1, 0}},
-    {"1..2", 0, 3, {52, 2, 2, 12, 1, 0, 44, 1, 1}},
-    {"$_ 1sec", 0, 4, {24, 2, 0, 4, 1, 0, 44, 1, 1, 5, 3, 0}},
-    {"#prag", 0, 1, {7, 5, 0}},
-    {"#pragmatic", 0, 1, {8, 10, 0}},
-    {"0x1.5", 0, 1, {54, 5, 5}},
-    {";,'", 0, 3, {OQ3_KIND_SEMI, 1, 0, OQ3_KIND_COMMA, 1, 0, OQ3_KIND_UNKNOWN, 1, 0}},
+    {"\"\"", 0, 1, {59, 2, 2, 0}},
+    {"\"0\n\"", 0, 1, {57, 4, 4, 0}},
+    {"\"0\n", 0, 1, {58, 3, 3, 0}},
+    {"$_", 0, 1, {24, 2, 0, 0}},
+    {"0b102", 0, 1, {40, 5, 5, 0}},
+    {"1e", 0, 1, {53, 2, 2, 0}},
+    {"1.e5", 0, 1, {52, 4, 2, 0}},
+    {"1._5", 0, 1, {52, 4, 2, 0}},
+    {"0B1", 0, 1, {44, 3, 1, 0}},
+    {"/*/**/", 0, 1, {3, 6, 0, 0}},
+    {"pragma", 0, 1, {5, 6, 0, 0}},
+    {"pragma", 1, 1, {8, 6, 0, 0}},
+    {"pragma x\ny", OQ3_DEFAULT_PROFILE, 3, {OQ3_KIND_PRAGMA, 8, 0, 0, OQ3_KIND_WHITESPACE, 1, 0, 8, OQ3_KIND_IDENT, 1, 0, 9}},
+    {"pragmatic x", OQ3_DEFAULT_PROFILE, 1, {OQ3_KIND_PRAGMA, 11, 0, 0}},
+    {"#pragma x", OQ3_DEFAULT_PROFILE, 1, {OQ3_KIND_PRAGMA, 9, 0, 0}},
+    {"// pragma", OQ3_DEFAULT_PROFILE, 1, {OQ3_KIND_LINE_COMMENT, 9, 0, 0}},
+    {"pragma x", OQ3_PROFILE_RELEASE, 3, {OQ3_KIND_IDENT, 6, 0, 0, OQ3_KIND_WHITESPACE, 1, 0, 6, OQ3_KIND_IDENT, 1, 0, 7}},
+    {"1..2", 0, 3, {52, 2, 2, 0, 12, 1, 0, 2, 44, 1, 1, 3}},
+    {"$_ 1sec", 0, 4, {24, 2, 0, 0, 4, 1, 0, 2, 44, 1, 1, 3, 5, 3, 0, 4}},
+    {"#prag", 0, 1, {7, 5, 0, 0}},
+    {"#pragmatic", 0, 1, {8, 10, 0, 0}},
+    {"0x1.5", 0, 1, {54, 5, 5, 0}},
+    {";,'", 0, 3, {OQ3_KIND_SEMI, 1, 0, 0, OQ3_KIND_COMMA, 1, 0, 1, OQ3_KIND_UNKNOWN, 1, 0, 2}},
 };
 
 static const sample items[] = {
@@ -164,9 +162,11 @@ static void lists(void) {
     {
         oq3_token row[2];
         CHECK(is(oq3_tokenize(BYTES("a;"), 2, OQ3_DEFAULT_PROFILE, (uint32_t *)row, OQ3_WORDS * 2), 0, 2));
-        CHECK(row[0].kind == OQ3_KIND_IDENT && row[0].length == 1 && row[0].suffix == 0 && row[1].kind == OQ3_KIND_SEMI);
-        CHECK(is(oq3_tokenize_rows(BYTES(".1x"), 3, OQ3_DEFAULT_PROFILE, row, 2), 0, 2));
-        CHECK(row[0].kind == OQ3_KIND_DOT && row[0].length == 1 && row[0].suffix == 0 && row[1].kind == OQ3_KIND_INT_DECIMAL && row[1].length == 2 && row[1].suffix == 1);
+        CHECK(row[0].kind == OQ3_KIND_IDENT && row[0].length == 1 && row[0].suffix == 0 && row[0].start == 0);
+        CHECK(row[1].kind == OQ3_KIND_SEMI && row[1].length == 1 && row[1].suffix == 0 && row[1].start == 1);
+        CHECK(is(oq3_tokenize_rows(BYTES(" \n1x"), 4, OQ3_DEFAULT_PROFILE, row, 2), 0, 2));
+        CHECK(row[0].kind == OQ3_KIND_WHITESPACE && row[0].length == 2 && row[0].suffix == 0 && row[0].start == 0);
+        CHECK(row[1].kind == OQ3_KIND_INT_DECIMAL && row[1].length == 2 && row[1].suffix == 1 && row[1].start == 2);
     }
 }
 
@@ -268,7 +268,7 @@ static void marks(void) {
 static void nothing(void) {
     fresh();
     CHECK(is(oq3_tokenize(NULL, 0, 0, NULL, 0), 0, 0));
-    CHECK(is(oq3_tokenize(NULL, 0, 1, list, 3), 0, 0));
+    CHECK(is(oq3_tokenize(NULL, 0, 1, list, OQ3_WORDS), 0, 0));
     CHECK(is(oq3_tokenize_rows(NULL, 0, 0, NULL, 0), 0, 0));
     CHECK(is(oq3_tokenize_rows(NULL, 0, 1, (oq3_token *)list, 1), 0, 0));
     CHECK(is(oq3_renewal_key(NULL, 0, 0, NULL, 0), 0, 0));
@@ -284,6 +284,18 @@ static void nothing(void) {
     CHECK(oq3_decode(NULL, 0, 0).wide == 0 && oq3_decode(NULL, 0, SIZE_MAX).code == 0);
 }
 
+/* tokens far from the text's first byte: behind a line comment of so many bytes, an LF and a semicolon */
+static void far_off(uint8_t *at, size_t n) {
+    uint32_t want[3 * OQ3_WORDS] = {OQ3_KIND_LINE_COMMENT, 0, 0, 0, OQ3_KIND_WHITESPACE, 1, 0, 0, OQ3_KIND_SEMI, 1, 0, 0};
+    want[1] = want[7] = (uint32_t)n;
+    want[11] = want[7] + 1;
+    memcpy(at, "//", 2);
+    memcpy(at + n, "\n;", 2);
+    CHECK(fills_in(3 * OQ3_WORDS, oq3_tokenize, at, n + 2, 0, want, 3, 3 * OQ3_WORDS) && fills_in(3 * OQ3_WORDS, tokenize_rows, at, n + 2, 1, want, 3, 3 * OQ3_WORDS));
+    memcpy(at, "\0\0", 2);
+    memcpy(at + n, "\0\0", 2);
+}
+
 /* one byte more than the longest text: memory that is reserved, of which little is touched */
 static void too_long(void) {
     size_t more = (size_t)OQ3_LONGEST + 1;
@@ -291,7 +303,7 @@ static void too_long(void) {
     const uint8_t *text = (const uint8_t *)at;
     oq3_comparison c;
     if (at == (void *)-1) {
-        printf("test: no room for a text of 4 GiB, refusal 2 is not tried\n");
+        printf("test: no room for a text of 4 GiB, refusal 2 and far tokens are not tried\n");
         return;
     }
     fresh();
@@ -312,6 +324,8 @@ static void too_long(void) {
     CHECK(c.verdict == OQ3_NEW_REFUSED && is(c.refusal, 2, 0) && c.agreed == 0);
     CHECK(oq3_place_of(text, more, 3).line == 1 && oq3_place_of(text, more, 3).column == 4);
     CHECK(oq3_decode(text, more, more - 1).code == 0 && oq3_decode(text, more, more - 1).wide == 1 && oq3_decode(text, more, more).wide == 0);
+    far_off(at, 70000);
+    far_off(at, (1 << 24) + 1);
     /* a direction mark is told behind it */
     memcpy(at, "\xE2\x80\xAE", 3);
     CHECK(is(oq3_tokenize(text, more, 0, list, 0), 2, 0) && is(oq3_renewal_key(text, more, 1, key, KEY), 2, 0) && is(oq3_check_cut(text, more, 0), 2, 0));
@@ -792,11 +806,11 @@ static void say_records(oq3_answer a, size_t width) {
         say(list[i], i % width == 0 ? " " : ",");
 }
 
-/* the records tile the text */
+/* the records tile the text: each starts behind all before it */
 static bool tiles(oq3_answer a) {
     size_t at = 0, i;
     for (i = 0; a.number == 0 && i < a.also; i++) {
-        if (list[OQ3_WORDS * i + 1] == 0)
+        if (list[OQ3_WORDS * i + 1] == 0 || list[OQ3_WORDS * i + 3] != at)
             return false;
         at += list[OQ3_WORDS * i + 1];
     }
@@ -821,8 +835,8 @@ static bool task(const char *name) {
 
 /* body PROFILE INDEX MODE HEX: the body of a quoted token, behind its quote and before the one that closes it, inside its text */
 static void body(void) {
-    uint32_t profile = (uint32_t)number(), index = (uint32_t)number(), mode = (uint32_t)number(), i;
-    size_t at = 0, end;
+    uint32_t profile = (uint32_t)number(), index = (uint32_t)number(), mode = (uint32_t)number();
+    size_t at, end;
     oq3_answer a;
     text_len = hex(text);
     a = oq3_tokenize(text, text_len, profile, list, OQ3_WORDS * text_len);
@@ -830,8 +844,7 @@ static void body(void) {
         say_answer(a);
         return;
     }
-    for (i = 0; i < index; i++)
-        at += list[OQ3_WORDS * i + 1];
+    at = list[OQ3_WORDS * index + 3];
     end = at + list[OQ3_WORDS * index + 2] - list[OQ3_WORDS * index] % 2;
     fresh();
     say_records(oq3_unescape_part(text, text_len, at + 1, end, mode, list, OQ3_ITEM_WORDS * (text_len + 1)), OQ3_ITEM_WORDS);

@@ -1,7 +1,5 @@
 // The tasks on tokens and items: lists of words, `RECORD` for a token and `ITEM` for an item, and rows of records.
-ghost use Prim.Native.Nat.{_≤_, _*_, _+_};
-ghost use lib.ListN.{length};
-ghost use Rattle.cutters.specs.Records.{recordWords};
+ghost use Prim.Native.Nat.{_≤_};
 use crate::output::print_answer;
 use crate::output::print_word;
 use crate::output::print_words;
@@ -44,20 +42,6 @@ fn wide(word: u32) -> usize
     word as usize
 }
 
-// Where the record `index` of a list of tokens starts in the text.
-fn start_of(list: &[u32], index: usize) -> usize
-    requires { ⌜ (recordWords * index ≤ length (now list)) × (index ≤ 4294967295) ⌝ }
-    ensures { λ r. ⌜ r ≤ index * 4294967295 ⌝ }
-{
-    let mut start = 0;
-    let mut i = 0;
-    while i < index {
-        start += wide(list[RECORD * i + 1]);
-        i += 1;
-    }
-    start
-}
-
 // A part of the text, if there is one.
 struct Part {
     right: bool,
@@ -73,7 +57,7 @@ const NO_PART: Part = Part {
 
 // The body of a string that starts there: behind its quote, and before the one that closes it.
 fn body_at(kind: u32, start: usize, suffix: usize) -> Part
-    requires { ⌜ (start ≤ 18446744065119617025) × (suffix ≤ 4294967295) ⌝ }
+    requires { ⌜ (start ≤ 4294967295) × (suffix ≤ 4294967295) ⌝ }
 {
     if kind < FIRST_STR {
         return NO_PART;
@@ -106,7 +90,7 @@ fn token_body(list: &[u32], cut: Answer, index: usize) -> Part
     }
     body_at(
         list[RECORD * index],
-        start_of(list, index),
+        wide(list[RECORD * index + 3]),
         wide(list[RECORD * index + 2]),
     )
 }
@@ -176,6 +160,7 @@ fn print_record(t: Token) {
     print_word(b" ", t.kind);
     print_word(b" ", t.len);
     print_word(b" ", t.suffix);
+    print_word(b" ", t.start);
 }
 
 fn print_row(row: Row, n: usize) {
@@ -201,6 +186,7 @@ pub fn rowroom(text: &[u8], asked: Asked) {
         kind: BLANK,
         len: BLANK,
         suffix: BLANK,
+        start: BLANK,
     };
     let given = rows_of(text, asked.first, [blank; 64], n);
     let row = given.row;

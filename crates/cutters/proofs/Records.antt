@@ -1,11 +1,15 @@
--- How many words records have.
+-- The lengths of tokens that lie one behind the other, and how many words their records have.
 -- Assumes nothing.
 use Prim.Native.Nat.{ℕ, _+_, _*_}
 use native.Mathlib.Omega.{arith}
 use mathlib.Core.Path.{_≡_, refl}
-use mathlib.Core.List.{List, [], _∷_}
+use mathlib.Core.List.{List, [], _∷_, _++_}
 use lib.ListN.{length, length-append}
-use Rattle.cutters.specs.Records.{Token, recordWords, wordsOf, flatFrom}
+use Rattle.cutters.specs.Records.{Token, total, recordWords, wordsOf, flatFrom}
+
+pub total-append : (ts us : List Token) → total (ts ++ us) ≡ total ts + total us
+total-append [] us = omega arith
+total-append (t ∷ ts) us = omega (arith, total-append ts us)
 
 pub length-words : (s : List ℕ) (at : ℕ) (t : Token) → length (wordsOf s at t) ≡ recordWords
 length-words s at t = refl

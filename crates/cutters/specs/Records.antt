@@ -3,7 +3,7 @@
 use Prim.Native.Nat.{ℕ, _+_}
 use mathlib.Core.List.{List, [], _∷_, _++_}
 
--- a token's record: kind, length in bytes, suffix start
+-- a token, wherever it stands: kind, length in bytes, suffix start
 pub record Token : Type 0 where
   pub kind : ℕ
   pub len : ℕ
@@ -14,12 +14,12 @@ abbrev pub total : List Token → ℕ
 total [] = 0
 total (t ∷ ts) = t .len + total ts
 
--- ---- how many words a record has, and which they are, of a token that stands at a place of the text s
+-- ---- how many words a record has, and which they are, of a token that stands at a place of the text s: kind, length, suffix start and the place
 abbrev pub recordWords : ℕ
-recordWords = 3
+recordWords = 4
 
 abbrev pub wordsOf : List ℕ → ℕ → Token → List ℕ
-wordsOf s at t = t .kind ∷ t .len ∷ t .suffix ∷ []
+wordsOf s at t = t .kind ∷ t .len ∷ t .suffix ∷ at ∷ []
 
 -- the words of tokens that lie in the text one behind the other, from a place on
 unfoldable pub flatFrom : List ℕ → ℕ → List Token → List ℕ

@@ -8,4 +8,4 @@ pub struct Piece {
 }
 
 // How many words a record has.
-pub const RECORD: usize = 3;
+pub const RECORD: usize = 4;

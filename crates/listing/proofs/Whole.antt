@@ -4,6 +4,7 @@ use Prim.Native.Nat.{ℕ, suc, _+_, _-_, _*_, _/_, _≤_, _<_, max}
 use native.Mathlib.Decide.{decLt}
 use native.Mathlib.Omega.{arith}
 use mathlib.Core.Path.{_≡_, refl, ap, sym, _∙_, subst}
+use mathlib.Core.Logic.{_⊎_, inl, inr}
 use mathlib.Core.List.{List, [], _∷_, _++_}
 use lib.ListN.{length, drop, getD, length-take, length-drop, drop-of-length-le}
 use lib.Seq.{sets, length-sets, take-all, take-nil}
@@ -32,71 +33,99 @@ use Rattle.unicode.specs.Ranges.{flat}
 use Rattle.ucd.specs.Ucd.{xidStart, xidContinue, emoji}
 
 -- ---- a run of tokens: to go on from here comes to the same
-pub record Filling (u : Letters) (profile : ℕ) (s : List ℕ) (from : ℕ) (list₀ : List ℕ) (room at n : ℕ) (list : List ℕ) : Type 0 where
-  pub full : room ≡ length list₀ / recordWords
+pub record Filling (u : Letters) (profile : ℕ) (s : List ℕ) (from : ℕ) (list₀ : List ℕ) (full at k : ℕ) (list : List ℕ) : Type 0 where
+  -- there is room for so many records, and so many are stored
+  pub room : ℕ
+  pub n : ℕ
+  pub room-is : room ≡ length list₀ / recordWords
+  pub full-is : full ≡ recordWords * room
+  pub stored : k ≡ recordWords * n
   pub low : n ≤ room
   pub long : length list ≡ length list₀
   pub count : n + length (runFrom u profile s at (room - n)) ≡ length (runFrom u profile s from room)
   pub place : at + total (runFrom u profile s at (room - n)) ≡ from + total (runFrom u profile s from room)
   pub rest : drop (room - n) (tokensBy u profile (drop at s)) ≡ drop room (tokensBy u profile (drop from s))
-  pub same : sets list (recordWords * n) (flatFrom s at (runFrom u profile s at (room - n))) ≡ sets list₀ 0 (flatFrom s from (runFrom u profile s from room))
+  pub same : sets list k (flatFrom s at (runFrom u profile s at (room - n))) ≡ sets list₀ 0 (flatFrom s from (runFrom u profile s from room))
 
-pub filling-none : (u : Letters) (profile : ℕ) (s : List ℕ) (from : ℕ) (list : List ℕ) {room : ℕ} → room ≡ length list / recordWords → Filling u profile s from list room from 0 list
-filling-none u profile s from list {room} r =
+pub filling-none : (u : Letters) (profile : ℕ) (s : List ℕ) (from : ℕ) (list : List ℕ) {full : ℕ} → full ≡ length list / recordWords * recordWords → Filling u profile s from list full from 0 list
+filling-none u profile s from list {full} r =
+    let room = length list / recordWords in
     let z : room - 0 ≡ room = omega arith in
-    record { full = r; low = omega arith; long = refl; count = rw z (omega arith); place = rw z; rest = rw z; same = rw z }
+    record {
+      room = room;
+      n = 0;
+      room-is = refl;
+      full-is = omega arith;
+      stored = omega arith;
+      low = omega arith;
+      long = refl;
+      count = rw z (omega arith);
+      place = rw z;
+      rest = rw z;
+      same = rw z;
+    }
 
-module _ {u : Letters} {profile : ℕ} {s list₀ list : List ℕ} {from room at n : ℕ} (w : Filling u profile s from list₀ room at n list) where
-  pub fill-room : {k : ℕ} → n < room → k ≡ recordWords * n → k + recordWords ≤ length list
-  fill-room h e = omega (arith, w .full, w .long)
+module _ {u : Letters} {profile : ℕ} {s list₀ list : List ℕ} {from full at k : ℕ} (w : Filling u profile s from list₀ full at k list) where
+  pub fill-room : k < full → k + recordWords ≤ length list
+  fill-room h = omega (arith, w .full-is, w .stored, w .room-is, w .long)
 
-  module _ {kind suffixAt end n′ k : ℕ} {list′ : List ℕ} (l : n < room) (h : at < length s) (a : Advanced u profile s at kind suffixAt end) where
-    pub fill-on : k ≡ recordWords * n → list′ ≡ sets list k (wordsOf s at (record { kind = kind; len = end - at; suffix = suffixAt - at })) → n′ ≡ n + 1 → Filling u profile s from list₀ room end n′ list′
+  module _ {kind suffixAt end k′ : ℕ} {list′ : List ℕ} (l : k < full) (h : at < length s) (a : Advanced u profile s at kind suffixAt end) where
+    pub fill-on : list′ ≡ sets list k (wordsOf s at (record { kind = kind; len = end - at; suffix = suffixAt - at })) → k′ ≡ k + recordWords → Filling u profile s from list₀ full end k′ list′
     unfolding flatFrom
-    fill-on v e f =
+    fill-on e f =
+        let room = w .room in
+        let n = w .n in
         let ts = tokensBy u profile (drop end s) in
         let t : Token = record { kind = kind; len = end - at; suffix = suffixAt - at } in
         let view : tokensBy u profile (drop at s) ≡ t ∷ ts = advanced-view u profile s at kind suffixAt end a h in
         let some : at < end = omega (arith, end-some u profile s at kind suffixAt end a) in
-        let less : room - n ≡ suc (room - n′) = omega arith in
-        let front : runFrom u profile s at (room - n) ≡ t ∷ runFrom u profile s end (room - n′) = rw (less, view) in
+        let less : room - n ≡ suc (room - suc n) = omega (arith, l, w .full-is, w .stored) in
+        let front : runFrom u profile s at (room - n) ≡ t ∷ runFrom u profile s end (room - suc n) = rw (less, view) in
         let W = wordsOf s at t in
-        let m : recordWords * n′ ≡ k + length W = omega (arith, length-words s at t) in
+        let m : k′ ≡ k + length W = omega (arith, f, length-words s at t) in
         let there : at + t .len ≡ end = omega (arith, some) in
-        let rest = runFrom u profile s end (room - n′) in
-        let far : drop (room - n) (tokensBy u profile (drop at s)) ≡ drop (room - n′) ts = rw (less, view) in
-        let g : sets list k (flatFrom s at (runFrom u profile s at (room - n))) ≡ sets list₀ 0 (flatFrom s from (runFrom u profile s from room)) = rw v (w .same) in
+        let rest = runFrom u profile s end (room - suc n) in
+        let far : drop (room - n) (tokensBy u profile (drop at s)) ≡ drop (room - suc n) ts = rw (less, view) in
         let l : length list′ ≡ length list = ap length e ∙ length-sets list k W in
-        let f : flatFrom s at (runFrom u profile s at (room - n)) ≡ W ++ flatFrom s end rest = ap (flatFrom s at) front ∙ ap (λ (i : ℕ). W ++ flatFrom s i rest) there in
+        let f′ : flatFrom s at (runFrom u profile s at (room - n)) ≡ W ++ flatFrom s end rest = ap (flatFrom s at) front ∙ ap (λ (i : ℕ). W ++ flatFrom s i rest) there in
         record {
-          full = w .full;
-          low = omega arith;
+          room = room;
+          n = suc n;
+          room-is = w .room-is;
+          full-is = w .full-is;
+          stored = omega (arith, f, w .stored);
+          low = omega (arith, less);
           long = l ∙ w .long;
           count = omega (arith, w .count, ap length front);
           place = omega (arith, w .place, ap total front, some);
           rest = sym far ∙ w .rest;
-          same = rw (m, e) (sets-append W (flatFrom s end rest) list k ∙ ap (sets list k) (sym f) ∙ g);
+          same = rw (m, e) (sets-append W (flatFrom s end rest) list k ∙ ap (sets list k) (sym f′) ∙ w .same);
         }
 
   -- where nothing is left to cut, all is done
-  fill-done : {count : ℕ} → runFrom u profile s at (room - n) ≡ [] → drop (room - n) (tokensBy u profile (drop at s)) ≡ tokensBy u profile (drop at s) → count ≡ n → Filled u profile s from list₀ at count list
+  fill-done : {count : ℕ} → runFrom u profile s at (w .room - w .n) ≡ [] → drop (w .room - w .n) (tokensBy u profile (drop at s)) ≡ tokensBy u profile (drop at s) → count ≡ k / recordWords → Filled u profile s from list₀ at count list
   unfolding flatFrom
-  fill-done {count} z k e =
-      let r = w .full in
+  fill-done {count} z v e =
+      let r = w .room-is in
       record {
-        many = rw (← r) (omega (arith, w .count, ap length z));
+        many = rw (← r) (omega (arith, w .stored, w .count, ap length z));
         reached = rw (← r) (omega (arith, w .place, ap total z));
-        rest = rw (← r) (sym k ∙ w .rest);
-        words = rw (← r) (ap (λ (l : List Token). sets list (recordWords * n) (flatFrom s at l)) (sym z) ∙ w .same);
+        rest = rw (← r) (sym v ∙ w .rest);
+        words = rw (← r) (ap (λ (l : List Token). sets list k (flatFrom s at l)) (sym z) ∙ w .same);
       }
 
-  pub fill-full : {count : ℕ} → room ≤ n → count ≡ n → Filled u profile s from list₀ at count list
-  fill-full h e = let z : room - n ≡ 0 = omega arith in fill-done (rw z) (rw z) e
+  fill-full : {count : ℕ} → full ≤ k → count ≡ k / recordWords → Filled u profile s from list₀ at count list
+  fill-full h e = let z : w .room - w .n ≡ 0 = omega (arith, h, w .full-is, w .stored) in fill-done (rw z) (rw z) e
 
-  pub fill-end : {count : ℕ} → length s ≤ at → count ≡ n → Filled u profile s from list₀ at count list
+  fill-end : {count : ℕ} → length s ≤ at → count ≡ k / recordWords → Filled u profile s from list₀ at count list
   fill-end h e =
       let z = none-left u profile s at h in
-      fill-done (rw z (take-nil (room - n))) (rw z (drop-of-length-le [] {i = room - n} (omega arith))) e
+      fill-done (rw z (take-nil (w .room - w .n))) (rw z (drop-of-length-le [] {i = w .room - w .n} (omega arith))) e
+
+  -- the loop is left where the list is full or the text ends
+  pub fill-left : {count : ℕ} → (full ≤ k) ⊎ (length s ≤ at) → count ≡ k / recordWords → Filled u profile s from list₀ at count list
+  fill-left (inl h) e = fill-full h e
+  fill-left (inr h) e = fill-end h e
 
 -- ---- the same for every length of text
 module _ {u : Letters} {profile : ℕ} {s list list′ : List ℕ} {from at count : ℕ} where
@@ -179,7 +208,7 @@ listed-done {s} {profile = profile} c z r = listed-by (room.passed c z (rw (know
 -- ---- a run of one token
 -- a record of noughts, and the words of at most one token before it
 abbrev none : List ℕ
-none = 0 ∷ 0 ∷ 0 ∷ []
+none = 0 ∷ 0 ∷ 0 ∷ 0 ∷ []
 
 one-words : (s : List ℕ) (at : ℕ) (l : List Token) → length l ≤ 1 → {list : List ℕ} → list ≡ flatFrom s at l ++ drop (length (flatFrom s at l)) none → (getD list 0 0 ≡ front l .kind) × (getD list 2 0 ≡ front l .suffix) × (total l ≡ front l .len)
 unfolding flatFrom front

@@ -27,17 +27,18 @@ pub struct Run {
 }
 
 // The words of a record, from place k on.
-fn put(list: &mut [u32], k: usize, kind: u32, len: u32, suffix: u32)
+fn put(list: &mut [u32], k: usize, kind: u32, len: u32, suffix: u32, start: u32)
     requires { ⌜ k + recordWords ≤ length (now list) ⌝ }
-    ensures { λ r. ⌜ now (list .exit) ≡ sets (now (list .entry)) k (kind ∷ len ∷ suffix ∷ []) ⌝ }
+    ensures { λ r. ⌜ now (list .exit) ≡ sets (now (list .entry)) k (kind ∷ len ∷ suffix ∷ start ∷ []) ⌝ }
 {
     list[k] = kind;
     list[k + 1] = len;
     list[k + 2] = suffix;
+    list[k + 3] = start;
 }
 
 // Fills the list with tokens from a place on, until it is full or the text ends. It is the one loop around the cutter, which is so
-// compiled into it.
+// compiled into it. It counts words and not records: a record's first word is then found with nothing worked out.
 fn fill(
     text: &[u8],
     from: usize,
@@ -50,21 +51,24 @@ fn fill(
     requires { ⌜ length (now text) ≤ longest ⌝ }
     ensures { λ r. ⌜ Filled (lent (now (start .entry)) (now (more .entry)) (now (emoji .entry))) profile (now (text .entry)) from (now (list .entry)) (r .at) (r .count) (now (list .exit)) ⌝ }
 {
-    let room = list.len() / RECORD;
+    let full = list.len() / RECORD * RECORD;
     let mut at = from;
-    let mut n: usize = 0;
-    while n < room {
+    let mut k: usize = 0;
+    while k < full {
         if text.len() <= at {
             break;
         }
         let t = advance_token(text, at, profile, start, more, emoji);
         let len = (t.end - at) as u32;
         let suffix = (t.suffix - at) as u32;
-        put(list, RECORD * n, t.kind, len, suffix);
-        n = n + 1;
+        put(list, k, t.kind, len, suffix, at as u32);
+        k = k + RECORD;
         at = t.end;
     }
-    Run { at, count: n }
+    Run {
+        at,
+        count: k / RECORD,
+    }
 }
 
 // The tokens of any bytes from a place on, as many as the list has room for, under any number as profile and over tables of the letters that are
@@ -170,7 +174,7 @@ fn lend(text: &[u8], profile: u32, list: &mut [u32]) -> Answer
     )
 }
 
-// The tokens of a text, `RECORD` words for each: kind, length in bytes, suffix start.
+// The tokens of a text, `RECORD` words for each: kind, length in bytes, suffix start, and where it starts in the text, in bytes.
 pub fn tokenize(text: &[u8], profile: u32, list: &mut [u32]) -> Answer
     ensures { λ r. ⌜ Listed (now (text .entry)) profile (now (list .entry)) (r .number) (r .also) (now (list .exit)) ⌝ }
 {

@@ -18,6 +18,7 @@ use Rattle.unicode.specs.Text.{byteLength}
 use Rattle.unicode.proofs.Valid.{well-formed-encoded, encode-append, encode-bytes, read-all}
 use Rattle.letters.specs.Chars.{isWhitespace, whitespace}
 use Rattle.cutters.specs.Records.{Token, total}
+use Rattle.cutters.proofs.Records.{total-append}
 use Rattle.lexer.specs.Cut.{Letters, advance, nextToken, tokens}
 use Rattle.lexer.specs.Unicode.{unicode}
 use Rattle.lexer.specs.Promises.{tokens3}
@@ -145,10 +146,6 @@ module _ (profile : ℕ) where
       rw (e .same) (clause-bytes from to (a .cuts) (b .cuts) n h (e .scalars) x y)
 
 -- ---- and it is no longer than the old one
-total-join : (a b : List Token) → total (a ++ b) ≡ total a + total b
-total-join [] b = omega arith
-total-join (t ∷ a) b = omega (arith, total-join a b)
-
 each-behind : (a b : List Token) → Each Formed (a ++ b) → Each Formed b
 each-behind [] b e = e
 each-behind (t ∷ a) b e = each-behind a b (e .1)
@@ -161,7 +158,7 @@ pub run-places : (profile : ℕ) {s : List ℕ} {from to : ℕ} → Run (tokens3
 run-places profile {s} {from} {to} r =
     let t = rw (r .is) at (tiles profile s) in
     let n = total-some (r .run) (r .behind) (each-behind (r .before) (r .run ++ r .behind) (t .each)) (r .some) in
-    (omega (arith, r .starts, r .ends), omega (arith, r .ends, t .all, total-join (r .before) (r .run ++ r .behind), total-join (r .run) (r .behind)))
+    (omega (arith, r .starts, r .ends), omega (arith, r .ends, t .all, total-append (r .before) (r .run ++ r .behind), total-append (r .run) (r .behind)))
 
 pub newline-shorter : (profile : ℕ) {s : List ℕ} {from to : ℕ} → Run (tokens3 profile) s from to → length (withNewline s from to) ≤ length s
 unfolding withNewline

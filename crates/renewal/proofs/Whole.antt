@@ -5,11 +5,10 @@ use native.Mathlib.Omega.{arith}
 use mathlib.Core.Path.{_≡_, refl, ap, sym, subst, _∙_}
 use mathlib.Core.Bool.{true, false}
 use mathlib.Core.List.{List}
-use lib.Dec.{eqb, ltb}
+use lib.Dec.{eqb}
 use lib.ListN.{length, take, drop}
 use lib.Seq.{take-append-seam}
-use borrow.Author.Tests.{eq-eqb, eqb-true}
-use Rattle.lists.proofs.Bools.{by-test, on-cond}
+use borrow.Author.Tests.{eq-eqb}
 use Rattle.unicode.specs.Direction.{unmarkedUpTo}
 use Rattle.text.specs.Answer.{Answered, done, roomTooSmall, directionMark, checkCut, CutMarked}
 use Rattle.text.specs.Steps.{Entered}
@@ -86,16 +85,13 @@ keyed-done {s} {profile = profile} c z r =
 -- ---- what a call that is done has written: the key of an accepted text
 pub done-accepted : {s : List ℕ} {profile : ℕ} {key : List ℕ} {a : ℕ} {key′ : List ℕ} → Keyed s profile key done a key′ → checkCut s profile .0 ≡ done
 unfolding answerOf
-done-accepted {s} {profile} p =
-    by-test (eqb (checkCut s profile .0) done) (λ e. eqb-true (checkCut s profile .0) done e)
-    (λ e. let h = p .answer .number-is in sym (rw e at h))
+done-accepted {s} {profile} {key} p = room.was-done (checkCut s profile) (length key) (length (keyOfText profile s)) (p .answer) refl .0
 
 pub done-written : {s : List ℕ} {profile : ℕ} {key : List ℕ} {a : ℕ} {key′ : List ℕ} → Keyed s profile key done a key′ → take a key′ ≡ keyOfText profile s
 unfolding answerOf keyed
 done-written {s} {profile} {key} {a} p =
-    let c = eq-eqb (checkCut s profile .0) done (done-accepted p) in
     let k = keyOfText profile s in
-    let n : a ≡ length k = (rw c at (p .answer .also-is)) ∙ on-cond (λ (r : ℕ × ℕ). r .1 ≡ length k) (ltb (length key) (length k)) refl refl in
+    let n : a ≡ length k = room.was-done (checkCut s profile) (length key) (length k) (p .answer) refl .2 in
     let d : eqb (answerOf s profile (length key) .0) done ≡ true = eq-eqb _ _ (sym (p .answer .number-is)) in
     rw (n, p .key-is, d) (take-append-seam k (drop (length k) key))
 

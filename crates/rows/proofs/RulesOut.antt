@@ -30,19 +30,28 @@ abbrev semicolon : List ℕ
 semicolon = 0x3B ∷ []
 
 abbrev seven : Token
-seven = record { kind = 7; len = 7; suffix = 7 }
+seven = record { kind = 7; len = 7; suffix = 7; start = 7 }
 
 -- a semicolon in a row of two records: the first is its token, and the second is as it was
-leaves : rowed semicolon 0 (seven ∷ seven ∷ []) ≡ record { kind = 10; len = 1; suffix = 0 } ∷ seven ∷ []
+leaves : rowed semicolon 0 (seven ∷ seven ∷ []) ≡ record { kind = 10; len = 1; suffix = 0; start = 0 } ∷ seven ∷ []
 unfolding all pieces cut eat inTable xidStart xidContinue emoji table behind begins joined readBy first next chars width bytesBefore validUpTo byteLength skip checkText unmarked unmarkedUpTo checkMarks checkCut whitespace marks markIn unicode tokens3 tokensOf answerOf isDigit advance nextToken tokens records rowed
 leaves = refl
+
+-- and two spaces before one, in a row that they fill
+spaces-leave : rowed (0x20 ∷ 0x20 ∷ semicolon) 0 (seven ∷ seven ∷ []) ≡ record { kind = 4; len = 2; suffix = 0; start = 0 } ∷ record { kind = 10; len = 1; suffix = 0; start = 2 } ∷ []
+unfolding all pieces cut eat inTable xidStart xidContinue emoji table behind begins joined readBy first next chars width bytesBefore validUpTo byteLength skip checkText unmarked unmarkedUpTo checkMarks checkCut whitespace marks markIn unicode tokens3 tokensOf answerOf isDigit advance nextToken tokens records rowed
+spaces-leave = refl
 
 -- nothing written
 pub rules-out-writing-nothing : {n a : ℕ} → Rowed semicolon 0 (seven ∷ seven ∷ []) n a (seven ∷ seven ∷ []) → ⊥
 rules-out-writing-nothing p = let e : _≡_ {A = ℕ} 7 10 = ap (λ (x : List Token). getD x 0 seven .kind) (p .row-is ∙ leaves) in omega arith
 
+-- every record starts at 0, or where its token ends, or at its own number
+pub rules-out-other-starts : {n a : ℕ} {l : List Token} → Rowed (0x20 ∷ 0x20 ∷ semicolon) 0 (seven ∷ seven ∷ []) n a l → (getD l 0 seven .start ≡ 0) × (getD l 1 seven .start ≡ 2)
+rules-out-other-starts p = (ap (λ (x : List Token). getD x 0 seven .start) (p .row-is ∙ spaces-leave), ap (λ (x : List Token). getD x 1 seven .start) (p .row-is ∙ spaces-leave))
+
 -- a record more than there are tokens
-pub rules-out-one-more : {n a : ℕ} {t : Token} → Rowed semicolon 0 (seven ∷ seven ∷ []) n a (record { kind = 10; len = 1; suffix = 0 } ∷ t ∷ []) → t ≡ seven
+pub rules-out-one-more : {n a : ℕ} {t : Token} → Rowed semicolon 0 (seven ∷ seven ∷ []) n a (record { kind = 10; len = 1; suffix = 0; start = 0 } ∷ t ∷ []) → t ≡ seven
 rules-out-one-more p = ap (λ (x : List Token). getD x 1 seven) (p .row-is ∙ leaves)
 
 -- a refusal that writes, at any text, profile and row: a refused call leaves the row as it was

@@ -7,13 +7,14 @@ use mathlib.Core.Bool.{true, false}
 use mathlib.Core.List.{List, [], _∷_}
 use lib.Dec.{ltb, eqb}
 use lib.ListN.{length, take, drop}
-use borrow.Author.Tests.{ltb-false, lt-ltb, le-ltb, eqb-true, eqb-false, eq-eqb, ne-eqb}
+use borrow.Author.Tests.{ltb-false, lt-ltb, le-ltb, eqb-true, eq-eqb, ne-eqb}
 use Rattle.lists.proofs.Bools.{by-test}
 use Rattle.unicode.specs.Ranges.{flat}
 use Rattle.ucd.specs.Ucd.{xidStart, xidContinue, emoji}
 use Rattle.unicode.specs.Direction.{unmarkedUpTo}
 use Rattle.text.specs.Answer.{Answered, done, roomTooSmall, directionMark, longest, checkCut, CutMarked}
 use Rattle.text.proofs.Checks.{cut-accepted, never-room}
+use Rattle.text.proofs.Room.{was-done}
 use Rattle.text.proofs.Marks.{marked-refused}
 use Rattle.cutters.specs.Records as definitions
 use Rattle.cutters.specs.Records.{recordWords}
@@ -34,13 +35,13 @@ front-one [] = refl
 front-one (t ∷ ts) = refl
 
 -- the first of a run of one
-first-run : (u : Letters) (profile : ℕ) (s : List ℕ) (at : ℕ) → length s ≤ longest → recordOf (front (run u profile s at 1)) ≡ recordAt u profile s at
+first-run : (u : Letters) (profile : ℕ) (s : List ℕ) (at : ℕ) → length s ≤ longest → recordOf at (front (run u profile s at 1)) ≡ recordAt u profile s at
 unfolding run
 first-run u profile s at short = rw (le-ltb longest (length s) short, front-one (tokensBy u profile (drop at s)))
 
 -- what `token_at` says, as a record
 pub token-at : {u : Letters} {profile : ℕ} {s : List ℕ} {at kind suffixAt end : ℕ} → length s ≤ longest → TokenAt u profile s at kind suffixAt end →
-    _≡_ {A = Token} (record { kind = kind; len = end - at; suffix = suffixAt - at }) (recordAt u profile s at)
+    _≡_ {A = Token} (record { kind = kind; len = end - at; suffix = suffixAt - at; start = at }) (recordAt u profile s at)
 token-at {u} {profile} {s} {at} {kind} {suffixAt} {end} short a =
     let t = front (run u profile s at 1) in
     let l : end - at ≡ t .len = omega (arith, a .end-is) in
@@ -131,14 +132,9 @@ module _ {s : List ℕ} {profile number also : ℕ} (row : List Token) (j : Judg
   passes : (checkCut s profile .0 ≡ done) × (need s profile ≤ length row)
   unfolding answerOf
   passes =
-      by-test (eqb (checkCut s profile .0) done)
-      (λ t. (
-        eqb-true _ _ t,
-        by-test (ltb (recordWords * length row / recordWords) (need s profile))
-            (λ b. let e : number ≡ roomTooSmall = rw (t, b) at (j .number-is) in absurd (omega (arith, e, z)))
-            (λ b. omega (arith, ltb-false (recordWords * length row / recordWords) (need s profile) b, whole-records (length row))),
-      ))
-      (λ t. let e : number ≡ checkCut s profile .0 = rw t at (j .number-is) in absurd (eqb-false _ _ t (sym e ∙ z)))
+      let room = recordWords * length row / recordWords in
+      let w = was-done (checkCut s profile) room (need s profile) (record { number-is = j .number-is; also-is = refl }) z in
+      (w .0, omega (arith, w .1, whole-records (length row)))
 
   pub judged-passed : (length s ≤ longest) × (length (tokensBy unicode profile s) ≤ length row)
   judged-passed = (cut-accepted s profile (passes .0) .text .short, omega (arith, passes .1, ap length (own s profile (passes .0))))
@@ -151,7 +147,7 @@ module _ {s : List ℕ} {profile number also : ℕ} (row : List Token) (j : Judg
   unfolding rowed
   rowed-done {n} f a =
       let e = own s profile (passes .0) in
-      let k : length (records (tokensBy unicode profile s)) ≡ n = length-records (tokensBy unicode profile s) ∙ sym (f .count) in
+      let k : length (records 0 (tokensBy unicode profile s)) ≡ n = length-records 0 (tokensBy unicode profile s) ∙ sym (f .count) in
       record {
         answer = rw answer-is (record { number-is = a .number-is; also-is = a .also-is ∙ f .count ∙ ap length (sym e) });
         row-is = rw (answer-is, e, k) (f .row-is);

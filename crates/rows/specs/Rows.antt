@@ -1,9 +1,9 @@
 -- What `tokenize_rows` answers, and what it leaves in the row of records that it was lent.
 -- Assumes nothing.
-use Prim.Native.Nat.{ℕ, _*_}
+use Prim.Native.Nat.{ℕ, _+_, _*_}
 use mathlib.Core.Path.{_≡_}
 use mathlib.Core.Bool.{cond}
-use mathlib.Core.List.{List, [], _∷_}
+use mathlib.Core.List.{List, [], _∷_, _++_}
 use lib.Dec.{eqb}
 use lib.ListN.{length, take, drop}
 use Rattle.lists.specs.Over.{over}
@@ -14,28 +14,32 @@ use Rattle.lexer.specs.Promises.{tokensOf}
 use Rattle.listing.specs.Promises.{answerOf}
 use Rattle.rows.specs.declared.Token.{Token}
 
--- the record of a token: its kind, its length in bytes, its suffix start
-abbrev pub recordOf : definitions.Token → Token
-recordOf t = record { kind = t .kind; len = t .len; suffix = t .suffix }
+-- the record of a token that stands at a place of the text: its kind, its length in bytes, its suffix start, and the place
+abbrev pub recordOf : ℕ → definitions.Token → Token
+recordOf at t = record { kind = t .kind; len = t .len; suffix = t .suffix; start = at }
 
-unfoldable pub records : List definitions.Token → List Token
-records [] = []
-records (t ∷ ts) = recordOf t ∷ records ts
+-- the records of tokens that lie in the text one behind the other, from a place on
+unfoldable pub records : ℕ → List definitions.Token → List Token
+records at [] = []
+records at (t ∷ ts) = recordOf at t ∷ records (at + t .len) ts
 
 -- the records of the tokens, and behind them what stood there; a refusal changes nothing
 unfoldable pub rowed : List ℕ → ℕ → List Token → List Token
 rowed s profile row =
-    cond (eqb (answerOf s profile (recordWords * length row) .0) done) (over (records (tokensOf profile s)) row) row
+    cond (eqb (answerOf s profile (recordWords * length row) .0) done) (over (records 0 (tokensOf profile s)) row) row
 
 -- the answer is that of `tokenize`, for a list with the words of each record of the row
 pub record Rowed (s : List ℕ) (profile : ℕ) (row : List Token) (number also : ℕ) (row′ : List Token) : Type 0 where
   pub answer : Answered (answerOf s profile (recordWords * length row)) number also
   pub row-is : row′ ≡ rowed s profile row
 
--- ---- a row as flat words, one record after the other
+-- ---- a row as flat words: the fields of each record in their order, one record after the other
+abbrev pub fields : Token → List ℕ
+fields t = t .kind ∷ t .len ∷ t .suffix ∷ t .start ∷ []
+
 unfoldable pub words : List Token → List ℕ
 words [] = []
-words (t ∷ ts) = t .kind ∷ t .len ∷ t .suffix ∷ words ts
+words (t ∷ ts) = fields t ++ words ts
 
 -- ---- a row by value, of which so many records are lent (all, where more are asked for): those are as `tokenize_rows` leaves them, and the others as they were
 pub record Bridged (s : List ℕ) (profile records : ℕ) (row : List Token) (number also : ℕ) (row′ : List Token) : Type 0 where

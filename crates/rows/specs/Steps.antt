@@ -21,9 +21,9 @@ pub record Judged (s : List ℕ) (profile room number also : ℕ) : Type 0 where
   pub number-is : number ≡ answerOf s profile (recordWords * room) .0
   pub also-is : ((number ≡ done → ⊥) → also ≡ answerOf s profile (recordWords * room) .1)
 
--- the record of the token at a place; where there is none, a record of noughts
+-- the record of the token at a place
 abbrev pub recordAt : Letters → ℕ → List ℕ → ℕ → Token
-recordAt u profile s at = recordOf (front (tokensBy u profile (drop at s)))
+recordAt u profile s at = recordOf at (front (tokensBy u profile (drop at s)))
 
 -- the place behind i tokens, the record there, and the row when those before it are stored
 abbrev pub placeAfter : Letters → ℕ → List ℕ → ℕ → ℕ
@@ -40,4 +40,4 @@ rowAfter u profile s row (suc i) = set (rowAfter u profile s row i) i (recordNo 
 -- all tokens are stored, and counted
 pub record Filled (u : Letters) (profile : ℕ) (s : List ℕ) (row : List Token) (n : ℕ) (row′ : List Token) : Type 0 where
   pub count : n ≡ length (tokensBy u profile s)
-  pub row-is : row′ ≡ records (tokensBy u profile s) ++ drop n row
+  pub row-is : row′ ≡ records 0 (tokensBy u profile s) ++ drop n row

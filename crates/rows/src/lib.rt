@@ -1,6 +1,6 @@
 // The second entry of the tokenizer: the tokens of a text in a lent row of records, one struct each.
 ghost use mathlib.Core.Path.{_≡_};
-ghost use Prim.Native.Nat.{_≤_, min};
+ghost use Prim.Native.Nat.{_≤_, _<_, min};
 ghost use lib.ListN.{length};
 ghost use Rattle.unicode.specs.Ranges.{flat};
 ghost use Rattle.ucd.specs.Ucd.{xidStart, xidContinue, emoji};
@@ -15,12 +15,13 @@ use text::Answer;
 use text::check_cut;
 use ucd::tables;
 
-// A token as `tokenize` lists it in words: kind, length in bytes, suffix start.
+// A token as `tokenize` lists it in words: kind, length in bytes, suffix start, and where it starts in the text, in bytes.
 #[repr(C)]
 pub struct Token {
     pub kind: u32,
     pub len: u32,
     pub suffix: u32,
+    pub start: u32,
 }
 
 // The checks, for a row of so many records. A row of as many records as the text has bytes cannot be short, and nothing is
@@ -45,7 +46,7 @@ fn judged(text: &[u8], profile: u32, room: usize) -> Answer
     }
 }
 
-// The record of the token at a place.
+// The record of the token at a place of the text.
 fn token_from<'a, 't>(
     text: &'a [u8],
     at: usize,
@@ -54,7 +55,7 @@ fn token_from<'a, 't>(
     more: &'t [u32],
     emoji: &'t [u32],
 ) -> Token
-    requires { ⌜ length (now text) ≤ longest ⌝ }
+    requires { ⌜ (length (now text) ≤ longest) × (at < length (now text)) ⌝ }
     ensures { λ r. ⌜ r ≡ recordAt (lent (now (start .entry)) (now (more .entry)) (now (emoji .entry))) profile (now (text .entry)) at ⌝ }
 {
     let t = token_at(text, at, profile, start, more, emoji);
@@ -62,6 +63,7 @@ fn token_from<'a, 't>(
         kind: t.kind,
         len: (t.end - at) as u32,
         suffix: (t.suffix - at) as u32,
+        start: at as u32,
     }
 }
 

@@ -30,4 +30,4 @@ use Rattle.lexer.specs.Cut.{notLf, isDigit, isHexDigit, block, slash, digits, e
 pub all-samples : Each (λ (x : Sample). does (x .call) ≡ (x .answer, x .after)) samples
 unfolding isCounted counted membersBy membersOf bodyLength lowBytes nextText flatten texts encode keyOf keyOfText keyAnswer keyed isSingle isRaw charactersShouldBeAscii toDigit hexDigit hexEscape firstDigit moreDigits codePoint closing braced unicodeEscape simple escape asciiCheck alone oneChar charOrByte items itemsOf flatItems bodyAnswer bodyListed pieces cut eat inTable xidStart xidContinue emoji table behind begins joined readBy first next chars width bytesBefore validUpTo byteLength skip checkText unmarked unmarkedUpTo checkMarks checkCut whitespace marks markIn unicode tokens3 tokensOf answerOf listed notLf isDigit isHexDigit block slash digits exponent exponentOf point fraction based number isUnit quoted all withoutLf twice quoteKind agree pound name word annotated hardware identifier numberSuffix advance nextToken tokens flatFrom samples
 all-samples =
-    (refl, (refl, (refl, (refl, (refl, (refl, (refl, (refl, (refl, (refl, (refl, (refl, (refl, (refl, (refl, (refl, (refl, (refl, tt))))))))))))))))))
+    (refl, (refl, (refl, (refl, (refl, (refl, (refl, (refl, (refl, (refl, (refl, (refl, (refl, (refl, (refl, (refl, (refl, (refl, (refl, tt)))))))))))))))))))

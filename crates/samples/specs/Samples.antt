@@ -1,4 +1,4 @@
--- The starred samples of the scope, and its example of a key, in one table: a call, what it answers, and what it leaves in the memory that it was lent.
+-- The starred samples of the scope, its example of a key, and one of where tokens start, in one table: a call, what it answers, and what it leaves in the memory that it was lent.
 -- Assumes nothing.
 use Prim.Native.Nat.{ℕ}
 use mathlib.Core.List.{List, [], _∷_}
@@ -28,9 +28,9 @@ pub record Sample : Type 0 where
 abbrev one : List ℕ → ℕ → ℕ → ℕ → Sample
 one text kind len suffix =
     record {
-      call = tokenize text 0 (7 ∷ 7 ∷ 7 ∷ 7 ∷ 7 ∷ 7 ∷ []);
+      call = tokenize text 0 (7 ∷ 7 ∷ 7 ∷ 7 ∷ 7 ∷ 7 ∷ 7 ∷ 7 ∷ []);
       answer = (0, 1);
-      after = kind ∷ len ∷ suffix ∷ 7 ∷ 7 ∷ 7 ∷ [];
+      after = kind ∷ len ∷ suffix ∷ 0 ∷ 7 ∷ 7 ∷ 7 ∷ 7 ∷ [];
     }
 
 unfoldable pub samples : List Sample
@@ -65,7 +65,7 @@ samples =
     -- pragma
     one (0x70 ∷ 0x72 ∷ 0x61 ∷ 0x67 ∷ 0x6D ∷ 0x61 ∷ []) 5 6 0 ∷
     -- pragma under profile 1
-    record { call = tokenize (0x70 ∷ 0x72 ∷ 0x61 ∷ 0x67 ∷ 0x6D ∷ 0x61 ∷ []) 1 (7 ∷ 7 ∷ 7 ∷ []); answer = (0, 1); after = 8 ∷ 6 ∷ 0 ∷ [] } ∷
+    record { call = tokenize (0x70 ∷ 0x72 ∷ 0x61 ∷ 0x67 ∷ 0x6D ∷ 0x61 ∷ []) 1 (7 ∷ 7 ∷ 7 ∷ 7 ∷ []); answer = (0, 1); after = 8 ∷ 6 ∷ 0 ∷ 0 ∷ [] } ∷
     -- \u{1234567} in Byte mode: Overlong
     record {
       call = unescape (0x5C ∷ 0x75 ∷ 0x7B ∷ 0x31 ∷ 0x32 ∷ 0x33 ∷ 0x34 ∷ 0x35 ∷ 0x36 ∷ 0x37 ∷ 0x7D ∷ []) 2 (7 ∷ 7 ∷ 7 ∷ []);
@@ -79,6 +79,12 @@ samples =
       after = 0 ∷ 8 ∷ 1114131 ∷ [];
     } ∷
     -- the lone byte FF
-    record { call = tokenize (0xFF ∷ []) 0 (7 ∷ 7 ∷ 7 ∷ []); answer = (3, 0); after = 7 ∷ 7 ∷ 7 ∷ [] } ∷
+    record { call = tokenize (0xFF ∷ []) 0 (7 ∷ 7 ∷ 7 ∷ 7 ∷ []); answer = (3, 0); after = 7 ∷ 7 ∷ 7 ∷ 7 ∷ [] } ∷
     -- ; with room for no record
-    record { call = tokenize (0x3B ∷ []) 0 (7 ∷ 7 ∷ []); answer = (4, 1); after = 7 ∷ 7 ∷ [] } ∷ []
+    record { call = tokenize (0x3B ∷ []) 0 (7 ∷ 7 ∷ 7 ∷ []); answer = (4, 1); after = 7 ∷ 7 ∷ 7 ∷ [] } ∷
+    -- 12;1 : the tokens start at 0, 2 and 3
+    record {
+      call = tokenize (0x31 ∷ 0x32 ∷ 0x3B ∷ 0x31 ∷ []) 0 (7 ∷ 7 ∷ 7 ∷ 7 ∷ 7 ∷ 7 ∷ 7 ∷ 7 ∷ 7 ∷ 7 ∷ 7 ∷ 7 ∷ 7 ∷ []);
+      answer = (0, 3);
+      after = 44 ∷ 2 ∷ 2 ∷ 0 ∷ 10 ∷ 1 ∷ 0 ∷ 2 ∷ 44 ∷ 1 ∷ 1 ∷ 3 ∷ 7 ∷ [];
+    } ∷ []

@@ -4,12 +4,14 @@ use mathlib.Core.Path.{_≡_, sym, _∙_}
 use mathlib.Core.Bool.{true, false}
 use mathlib.Core.List.{List}
 use Prim.Native.Nat.{ℕ, _≤_, _<_}
-use lib.Dec.{eqb}
+use native.Mathlib.Omega.{arith}
+use lib.Dec.{ltb, eqb}
 use lib.ListN.{length}
 use lib.Seq.{sets}
-use borrow.Author.Tests.{lt-ltb, le-ltb, eq-eqb, ne-eqb}
+use borrow.Author.Tests.{ltb-false, lt-ltb, le-ltb, eqb-true, eqb-false, eq-eqb, ne-eqb}
+use Rattle.lists.proofs.Bools.{by-test}
 use Rattle.lists.proofs.Store.{stored-front}
-use Rattle.text.specs.Answer.{Answered, done, roomTooSmall}
+use Rattle.text.specs.Answer.{Answered, done, roomTooSmall, checkRoom, _andThen_}
 use Rattle.text.specs.Steps.{Stored, Entered}
 
 module _ {room need n : ℕ} {new list list′ : List ℕ} {number also : ℕ} (c : n ≡ need) where
@@ -24,6 +26,15 @@ module _ {room need n : ℕ} {new list list′ : List ℕ} {number also : ℕ} (
       record { answer = rw (← c, lt-ltb room n h) (record { number-is = k; also-is = a }); memory = rw k e }
 
 -- ---- with the checks before it
+-- where it is done, the checks are passed, there is room for all, and the need is told
+pub was-done : (check : ℕ × ℕ) (room need : ℕ) {number also : ℕ} → Answered (check andThen checkRoom room need) number also → number ≡ done → (check .0 ≡ done) × (need ≤ room) × (also ≡ need)
+was-done check room need {number} a z =
+    by-test (eqb (check .0) done)
+    (λ t. by-test (ltb room need)
+    (λ b. let e : number ≡ roomTooSmall = rw (t, b) at (a .number-is) in absurd (omega (arith, e, z)))
+    (λ b. (eqb-true _ _ t, ltb-false room need b, rw (t, b) at (a .also-is))))
+    (λ t. let e : number ≡ check .0 = rw t at (a .number-is) in absurd (eqb-false _ _ t (sym e ∙ z)))
+
 module _ {check : ℕ × ℕ} {room need : ℕ} {new list list′ : List ℕ} {number also : ℕ} where
   pub refused : Answered check number also → (number ≡ done → ⊥) → list′ ≡ list → Entered check room need new list number also list′
   refused a n e =

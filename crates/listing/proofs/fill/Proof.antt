@@ -1,17 +1,22 @@
 use Prim.Native.Nat.{_-_}
 use native.Mathlib.Omega.{arith}
+use mathlib.Core.Path.{refl}
+use mathlib.Core.Logic.{inl, inr}
 use Rattle.lexer.specs.Unicode.{lent}
 use Rattle.lexer.proofs.Places.{end-some, end-within, suffix-after, suffix-within}
-use Rattle.listing.proofs.Whole.{Filling, filling-none, fill-room, fill-on, fill-full, fill-end}
+use Rattle.listing.proofs.Whole.{Filling, filling-none, fill-room, fill-on, fill-left}
 use borrow.Author.Needs.{needs}
 use Rattle.listing.proofs.fill.Statement.{statement}
 use Rattle.listing.proofs.fill.Tie as tie
 
 abbrev Inv-loop : tie.InvT-loop
-Inv-loop text from profile list₀ start more emoji room at₀ n₀ list at n = Filling (lent start more emoji) profile text from list₀ room at n list
+Inv-loop text from profile list₀ start more emoji full at₀ k₀ list at k = Filling (lent start more emoji) profile text from list₀ full at k list
 
 abbrev μ-loop : tie.MeasureT-loop
-μ-loop text from profile list₀ start more emoji room at₀ n₀ list at n = room - n
+μ-loop text from profile list₀ start more emoji full at₀ k₀ list at k = full - k
+
+mul-full : tie.Need-mul-full Inv-loop μ-loop
+mul-full c = omega arith
 
 loop-holds : tie.Need-loop-holds Inv-loop μ-loop
 loop-holds c = search (needs, filling-none)
@@ -31,14 +36,14 @@ sub-suffix c = omega (arith, suffix-after)
 cast-suffix : tie.Need-cast-suffix Inv-loop μ-loop
 cast-suffix c = omega (arith, suffix-within)
 
-mul-put : tie.Need-mul-put Inv-loop μ-loop
-mul-put c = search needs
+cast-put : tie.Need-cast-put Inv-loop μ-loop
+cast-put c = omega (arith, end-within)
 
 put-requires : tie.Need-put-requires Inv-loop μ-loop
 put-requires c κs = search (needs, fill-room)
 
-add-n : tie.Need-add-n Inv-loop μ-loop
-add-n c = search needs
+add-k : tie.Need-add-k Inv-loop μ-loop
+add-k c = search (needs, fill-room)
 
 loop-less : tie.Need-loop-less Inv-loop μ-loop
 loop-less c = omega arith
@@ -50,13 +55,8 @@ same-length : tie.Need-same-length Inv-loop μ-loop
 same-length c = search needs
 
 returns : tie.Need-returns Inv-loop μ-loop
-returns c = search (needs, fill-full, fill-end)
-
-same-length-2 : tie.Need-same-length-2 Inv-loop μ-loop
-same-length-2 c = search needs
-
-returns-2 : tie.Need-returns-2 Inv-loop μ-loop
-returns-2 c = search (needs, fill-full, fill-end)
+returns c =
+    fill-left (c .before .loop .inv) (elim (c .loop-test .came) [ inl x ↦ inl (x .left) | inr y ↦ inr (y .1 .taken) ]) refl
 
 pub fill-spec : {M : Type 1} → statement M
 fill-spec =
@@ -64,18 +64,17 @@ fill-spec =
     (tie.spec
     Inv-loop
     μ-loop
+    mul-full
     loop-holds
     advance-token-requires
     sub-len
     cast-len
     sub-suffix
     cast-suffix
-    mul-put
+    cast-put
     put-requires
-    add-n
+    add-k
     loop-less
     loop-again
     same-length
-    returns
-    same-length-2
-    returns-2)
+    returns)

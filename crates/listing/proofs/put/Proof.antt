@@ -1,4 +1,4 @@
-use native.Mathlib.Numerals.{add-one, add-two}
+use native.Mathlib.Numerals.{add-one, add-two, add-three}
 use native.Mathlib.Omega.{arith}
 use lib.ListN.{length-set}
 use borrow.Author.Needs.{needs}
@@ -31,11 +31,20 @@ mul-list-3 c = search needs
 slice-write-list-3 : tie.Need-slice-write-list-3
 slice-write-list-3 c = simp length-set (omega (arith, c .pre))
 
+add-list-3 : tie.Need-add-list-3
+add-list-3 c = search needs
+
+mul-list-4 : tie.Need-mul-list-4
+mul-list-4 c = search needs
+
+slice-write-list-4 : tie.Need-slice-write-list-4
+slice-write-list-4 c = simp length-set (omega (arith, c .pre))
+
 same-length : tie.Need-same-length
 same-length c = search needs
 
 returns : tie.Need-returns
-returns c = rw (add-one, add-two)
+returns c = rw (add-one, add-two, add-three)
 
 pub put-spec : {M : Type 1} → statement M
 put-spec =
@@ -49,5 +58,8 @@ put-spec =
     add-list-2
     mul-list-3
     slice-write-list-3
+    add-list-3
+    mul-list-4
+    slice-write-list-4
     same-length
     returns)

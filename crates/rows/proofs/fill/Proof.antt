@@ -141,7 +141,7 @@ module _ {M : Type 1} (𝓤 : URA M) (H : Heap 𝓤) (A : Atoms 𝓤) (W : Given
   s = sliceVal (b, o) (length xs)
 
   abbrev mach : Token → Val
-  mach t = vstruct (vcons (vint w32 (t .kind)) (vcons (vint w32 (t .len)) (vcons (vint w32 (t .suffix)) vnil)))
+  mach t = vstruct (vcons (vint w32 (t .kind)) (vcons (vint w32 (t .len)) (vcons (vint w32 (t .suffix)) (vcons (vint w32 (t .start)) vnil))))
 
   abbrev Arg : Type 0
   Arg = RefT (List ℕ) × (ℕ × (RefT (List Token) × (RefT (List ℕ) × (RefT (List ℕ) × (RefT (List ℕ) × Unit {0})))))
@@ -223,13 +223,13 @@ module _ {M : Type 1} (𝓤 : URA M) (H : Heap 𝓤) (A : Atoms 𝓤) (W : Given
     abbrev to-token : ℕ → TokenFrom 𝓤 H A mem run .Ghost
     to-token i = (((κ₀, (κ₂, tt)), (q₀, (q₂, tt)), tt, (ws, (at i, (p, (st, (mo, (em, tt)))))), (of ws ∷ [], (vint w64 (at i) ∷ [], (vint w32 p ∷ [], (of st ∷ [], (of mo ∷ [], (of em ∷ [], tt))))))), tt)
 
-    asks-token : (i : ℕ) → at i < 2 ^ 64 → ent 𝓤 (sep 𝓤 (A .lft κ₀ q₀) (sep 𝓤 (A .lft κ₂ q₂) (sem 𝓤 H A Owns))) (sep 𝓤 (TokenFrom 𝓤 H A mem run .pre (to-token i)) (sem 𝓤 H A Owns))
-    asks-token i fits =
+    asks-token : (i : ℕ) → at i < length (ws .now) → at i < 2 ^ 64 → ent 𝓤 (sep 𝓤 (A .lft κ₀ q₀) (sep 𝓤 (A .lft κ₂ q₂) (sem 𝓤 H A Owns))) (sep 𝓤 (TokenFrom 𝓤 H A mem run .pre (to-token i)) (sem 𝓤 H A Owns))
+    asks-token i less fits =
         qed W (‵ (flft κ₀ q₀) ∷ ‵ (flft κ₂ q₂) ∷ ‵ Owns ∷ []) ∵ move ! (2 ∷ []) $ use1 W (‵ Owns ⊛ ‵ Owns) owns-twice $ split ! $
         move ! (2 ∷ 3 ∷ 0 ∷ []) $ use3 W (raw (TokenFrom 𝓤 H A mem run .pre (to-token i))) pre $ frame ! $ done !
       where
         pre : ent 𝓤 (sep 𝓤 (A .lft κ₀ q₀) (sep 𝓤 (A .lft κ₂ q₂) (sem 𝓤 H A Owns))) (TokenFrom 𝓤 H A mem run .pre (to-token i))
-        pre = qed W (‵ (flft κ₀ q₀) ∷ ‵ (flft κ₂ q₂) ∷ ‵ Owns ∷ []) ∵ says ! short $ nothing ! $ move ! (2 ∷ 0 ∷ []) $ join ! $ move ! (1 ∷ 0 ∷ []) $ join ! $ frame ! $
+        pre = qed W (‵ (flft κ₀ q₀) ∷ ‵ (flft κ₂ q₂) ∷ ‵ Owns ∷ []) ∵ says ! (short, less) $ nothing ! $ move ! (2 ∷ 0 ∷ []) $ join ! $ move ! (1 ∷ 0 ∷ []) $ join ! $ frame ! $
             fsplit ! $ move ! (1 ∷ []) $ fsplit ! $ move ! (1 ∷ []) $ fsplit ! $
             -- [more; emoji; start; text]
             nothing ! $ move ! (2 ∷ 0 ∷ []) $ fjoin ! $ move ! (1 ∷ 0 ∷ []) $ fjoin ! $ move ! (1 ∷ 0 ∷ []) $ fjoin ! $
@@ -280,7 +280,7 @@ module _ {M : Type 1} (𝓤 : URA M) (H : Heap 𝓤) (A : Atoms 𝓤) (W : Given
             first ! $ branches ! (load ! (from ! (stop !)) (look ! 8 refl))
             (λ less. skips ! $ exec ! C Λ En more (anyQ (Turned i)) $
             -- [obs; the borrow; the three tokens; what is shared; _12; …; _11; …; _10; …; _9; …; _8; …; _7; …; _6; …; _5; …; _4; …; _3; …; _2; …; _1; …; _0; …]
-            move ! (3 ∷ 4 ∷ 5 ∷ []) $ use3 W (raw (TokenFrom 𝓤 H A mem run .pre (to-token (i .0))) ⊛ ‵ Owns) (asks-token (i .0) (at-fits less)) $ split ! $
+            move ! (3 ∷ 4 ∷ 5 ∷ []) $ use3 W (raw (TokenFrom 𝓤 H A mem run .pre (to-token (i .0))) ⊛ ‵ Owns) (asks-token (i .0) (ltb→lt (at (i .0)) (length (ws .now)) less) (at-fits less)) $ split ! $
             calls-at ! (fmOf 𝓤 H (W .laws) 𝓣) (TokenFrom 𝓤 H A mem run) known (to-token (i .0))
             (and-then ! (load ! (from ! (stop !)) (look ! 27 refl)) (and-then ! (load ! (from ! (stop !)) (look ! 13 refl)) (and-then ! (load ! (from ! (stop !)) (look ! 25 refl)) (and-then ! (load ! (from ! (stop !)) (look ! 21 refl)) (and-then ! (load ! (from ! (stop !)) (look ! 19 refl)) (and-then ! (load ! (from ! (stop !)) (look ! 17 refl)) (no-more !))))))) (λ w.
             use1 W (later (some (λ (t : Token). ((‵ (flft κ₀ q₀) ⊛ (‵ (flft κ₂ q₂) ⊛ ‵ ftrue)) ⊛ ‵ (T.the-row .own t (w ∷ []))) ⊛ raw (ensured 𝓤 H A token-from.ended (token-from.clauses 𝓤 H A mem run) (κ₀, (κ₂, tt)) (ws, (at (i .0), (p, (st, (mo, (em, tt)))))) tt t)))) (id⊢ 𝓤 _) $ await ! tt $ pick ! (λ t.

@@ -20,9 +20,12 @@ sub-t10 c = omega (arith, one-start (c .before .before .token-at .ensures))
 cast-t11 : tie.Need-cast-t11
 cast-t11 c = omega (arith, one-start (c .before .before .token-at .ensures))
 
+cast-t12 : tie.Need-cast-t12
+cast-t12 c = search needs
+
 returns : tie.Need-returns
 returns c = search (needs, token-at)
 
 pub token-from-spec : {M : Type 1} → statement M
 token-from-spec =
-    tie.close (tie.spec token-at-requires sub-t8 cast-t9 sub-t10 cast-t11 returns)
+    tie.close (tie.spec token-at-requires sub-t8 cast-t9 sub-t10 cast-t11 cast-t12 returns)
