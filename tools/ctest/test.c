@@ -325,7 +325,6 @@ static void too_long(void) {
     CHECK(oq3_place_of(text, more, 3).line == 1 && oq3_place_of(text, more, 3).column == 4);
     CHECK(oq3_decode(text, more, more - 1).code == 0 && oq3_decode(text, more, more - 1).wide == 1 && oq3_decode(text, more, more).wide == 0);
     far_off(at, 70000);
-    far_off(at, (1 << 24) + 1);
     /* a direction mark is told behind it */
     memcpy(at, "\xE2\x80\xAE", 3);
     CHECK(is(oq3_tokenize(text, more, 0, list, 0), 2, 0) && is(oq3_renewal_key(text, more, 1, key, KEY), 2, 0) && is(oq3_check_cut(text, more, 0), 2, 0));
