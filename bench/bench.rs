@@ -20,8 +20,11 @@ extern "C" {
 }
 
 // how many words a token and an item have in the port's lists
-const WORDS: usize = 4;
+const WORDS: usize = 5;
 const ITEM_WORDS: usize = 3;
+
+// stands for a token's fifth word, its misplaced underscore, of which the crate says nothing
+const UNSAID: u32 = 0;
 
 // ---- tokens: the check for UTF-8, and the tokens collected
 #[inline(never)]
@@ -206,7 +209,7 @@ impl What {
                 let mut words = |t: &(u32, u32, u32)| {
                     let start = end;
                     end += t.1;
-                    [t.0, t.1, t.2, start]
+                    [t.0, t.1, t.2, start, UNSAID]
                 };
                 oracle::tokens(s).iter().flat_map(|t| words(t)).collect()
             }
@@ -309,6 +312,14 @@ fn name(f: &str) -> &str {
     f.rsplit('/').next().unwrap()
 }
 
+/// A token's fifth word is not compared, but where it names a place there is an underscore.
+fn unsay(text: &[u8], words: &mut [u32]) {
+    for record in words.chunks_mut(WORDS) {
+        assert!(record[4] == 0 || text[(record[3] + record[4]) as usize] == b'_');
+        record[4] = UNSAID;
+    }
+}
+
 /// Both sides give what the crate gives, in both rooms, and nothing behind it is written.
 fn verify(w: &What, f: &str, text: &[u8]) {
     let want = w.want(text);
@@ -317,7 +328,10 @@ fn verify(w: &What, f: &str, text: &[u8]) {
     for room in [w.plenty(text), want.len()] {
         let mut k = Kept::new(w, room);
         assert_eq!(k.port(w, text), Answer { number: 0, also: count as u64 });
-        let got: Vec<u32> = if key { k.bytes.iter().map(|&b| b as u32).collect() } else { k.words };
+        let mut got: Vec<u32> = if key { k.bytes.iter().map(|&b| b as u32).collect() } else { k.words };
+        if matches!(w, What::Tokens) {
+            unsay(text, &mut got[..want.len()]);
+        }
         assert!(got[..want.len()] == want[..], "{f}: what is written differs");
         assert!(got[want.len()..].iter().all(|&x| x == if key { 0xAA } else { 0xAAAA_AAAA }), "{f}: written behind the end");
     }

@@ -141,16 +141,21 @@ enum {
 /*
  * A record of the list of tokens. The tokens tile the text: the first starts at 0, each next one where the one before it ends, the last ends
  * where the text does, and each has at least one byte.
+ *
+ * An underscore is misplaced that has not a digit on both sides in its run of digits. A hardware identifier and OQ3_KIND_DOLLAR have one run,
+ * behind the dollar sign. A number has up to three: from its first digit on, or behind its 0b, 0o or 0x; behind its point; and in its exponent.
+ * Digits are 0 to 9, in the run behind 0x also a to f and A to F. What stands in a suffix is in no run. Other tokens have none.
  */
 typedef struct oq3_token {
     uint32_t kind;
-    uint32_t length; /* in bytes */
-    uint32_t suffix; /* of a literal: where its suffix starts, from the token's first byte, `length` where it has none; else 0 */
-    uint32_t start;  /* where it starts in the text, in bytes: the lengths of all before it, added up */
+    uint32_t length;    /* in bytes */
+    uint32_t suffix;    /* of a literal: where its suffix starts, from the token's first byte, `length` where it has none; else 0 */
+    uint32_t start;     /* where it starts in the text, in bytes: the lengths of all before it, added up */
+    uint32_t misplaced; /* the place in the token, in bytes, of its first misplaced underscore; 0 for none */
 } oq3_token;
 
 /* How many words a record of a token has, and one of an item of a body. */
-enum { OQ3_WORDS = 4, OQ3_ITEM_WORDS = 3 };
+enum { OQ3_WORDS = 5, OQ3_ITEM_WORDS = 3 };
 
 /*
  * The tokens of a text: OQ3_WORDS words for each, in order, from list[0] on. `words` is the room. Refuses with 1, 2, 3, 7 and 4.
@@ -367,7 +372,7 @@ bool oq3_is_white_space(uint32_t c); /* White_Space: more than oq3_is_whitespace
  * quarter to spare. Most of it is for the tables of the properties, which a call that may need them copies there.
  */
 enum {
-    OQ3_STACK_TOKENIZE_ROWS = 36 * 1024, /* oq3_tokenize_rows, which has oq3_tokenize count where the row may be short */
+    OQ3_STACK_TOKENIZE_ROWS = 40 * 1024, /* oq3_tokenize_rows, which has oq3_tokenize count where the row may be short */
     OQ3_STACK_CUT = 24 * 1024,           /* oq3_tokenize, oq3_renewal_key, oq3_compare */
     OQ3_STACK = 16 * 1024                /* each other function */
 };

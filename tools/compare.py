@@ -1,22 +1,26 @@
 #!/usr/bin/env python3
 """Compares the program `answers` with the Rust crate on generated texts: task tok under both profiles, and task ident; or, with --listings, the
 task oqlist with no word, which is held to profile 1, with the words 0 and 1, and with one that asks for none; with --marks, either on texts of
-direction marks and what stands near them; or, with --bodies, the tasks unescape in all seven modes, char and byte, on bodies of literals; or, with
---digits, the task unescape in modes 1 and 4 on escapes by number, with every pair of characters of ASCII and every scalar value as a digit.
+direction marks and what stands near them; with --underscores, either on numbers and hardware identifiers full of underscores; or, with --bodies, the
+tasks unescape in all seven modes, char and byte, on bodies of literals; or, with --digits, the task unescape in modes 1 and 4 on escapes by number, with
+every pair of characters of ASCII and every scalar value as a digit.
 The Rust knows nothing of direction marks: where it cuts a text that holds one, 7 is wanted, with the place of the first. It says no token's start:
-the lengths before it, added up, are wanted.
+the lengths before it, added up, are wanted. It says nothing of misplaced underscores: what `misplaced` finds here is wanted.
 
-    tools/compare.py RELEASE DEBUG ANSWERS [[--listings] [--marks] | --bodies | --digits] [--short N] [--random N] [--seed S] [--programs DIR]
+    tools/compare.py RELEASE DEBUG ANSWERS [[--listings] [--marks | --underscores] [--model PROGRAM] | --bodies | --digits]
+                     [--short N] [--random N] [--seed S] [--programs DIR]
 
 RELEASE and DEBUG are the program that answers cases with the crate, built without and with debug assertions; ANSWERS is
-target/bin/answers. Every text of at most N pieces of the alphabet is compared (--short), then random texts of several sorts,
-and damaged ones, whole programs of DIR and damaged parts of them among them (not with --marks and --bodies); with --digits there are no others, and
---short, --random and --seed do nothing. Exit status 1 if an answer differs; the first few that do are printed.
+target/bin/answers. Every text of at most N pieces of the alphabet is compared (--short), behind each of several beginnings with --underscores, then
+random texts of several sorts, and damaged ones, whole programs of DIR and damaged parts of them among them (not with --marks, --underscores and
+--bodies); with --digits there are no others, and --short, --random and --seed do nothing. PROGRAM answers the task five, records of five words as
+they are wanted: with --model the same cases are held to its answers too. Exit status 1 if an answer differs; the first few that do are printed.
 """
 import argparse
 import itertools
 import pathlib
 import random
+import re
 import subprocess
 import sys
 
@@ -39,6 +43,15 @@ MARKS = "".join(map(chr, (*range(0x202A, 0x202F), *range(0x2066, 0x206A))))
 MARK_ALPHABET = [c.encode() for c in MARKS] + [s.encode() for s in ("\u2029", "\u202F", "\u2065", "\u206A", "a", "/", "*", "\n", "\"", "é", "…", "中", "\U0001F600")] + [b"\xe2", b"\x80", b"\x81", b"\xae", b"\xa6"]
 
 MARK_WORDS = MARK_ALPHABET + [s.encode() for s in ("//", "/*", "*/", "\"01\"", "1.5ns", "$0", "#pragma ", "pragma ", "@x ", " ", ";", "…" * 11, "中" * 11, "é" * 16, "\U0001F600" * 8, "a" * 31, " " * 32, "x = \"…\"; // “—” ")]
+
+# What numbers and hardware identifiers begin with, pieces at which their rules turn, what stands between two, and what may stand behind one.
+HEADS = [s.encode() for s in ("1", "0", "$", "0x", "0b", "0o", "0x1.", "1.5", "1e", "0xe", "1_", "$_")]
+
+FIGURE_ALPHABET = [s.encode() for s in "01_.e+xb$fs"]
+
+GAPS = [s.encode() for s in ("", "", " ", "\n", ";", "+", "-", ".", "..", "_", "$", "\"", "/*_*/", "//_\n", "\"0__1\"", "\"a_\"_", "é", "\U0001F600")]
+
+TAILS = [s.encode() for s in ("", "", "", "s", "ns", "dt", "im", "µs", "μs", "_", "_a", "x", "f", "g_1", "é_")]
 
 # Pieces at which a rule of bodies turns, and pieces of which longer bodies are made.
 BODY_ALPHABET = [s.encode() for s in "\\nrtxu{}07Ff_'\"\n\r \té\u00A0\u3000\0"]
@@ -108,6 +121,28 @@ def marked(rng, count):
             yield front + mark + rng.choice((b"", b"x", b" " * 33, text))
 
 
+def run(rng, digits):
+    """A run of digits and underscores, empty or seldom long."""
+    return bytes(rng.choice(digits + b"____") for _ in range(rng.choice((0, 1, 2, 3, 4, 5, 6, 40))))
+
+
+def figure(rng):
+    """A number, a hardware identifier or what is nearly one."""
+    out = rng.choice((b"", b"1", b"0", b"$", b"0x", b"0b", b"0o", b"0X"))
+    out += run(rng, b"0129afAF" if out == b"0x" else b"0129")
+    if rng.randrange(2):
+        out += b"." + run(rng, b"0129")
+    if rng.randrange(2):
+        out += rng.choice((b"e", b"E", b"e+", b"e-", b"E+")) + run(rng, b"0129")
+    return out + rng.choice(TAILS)
+
+
+def figures(rng, count):
+    for _ in range(count):
+        text = b"".join(rng.choice(GAPS) + figure(rng) for _ in range(rng.choice((1, 1, 2, 3, 8))))
+        yield text if rng.randrange(8) else damaged(rng, text)
+
+
 def bodies(rng, count):
     for _ in range(count):
         sort = rng.randrange(10)
@@ -152,13 +187,16 @@ def tasks(options):
     both = (options.release, options.debug)
     if options.listings:
         asked = [(b"oqlist -", b"tok 1", options.debug), (b"oqlist 0", b"tok 0", options.release), (b"oqlist 1", b"tok 1", options.debug)]
+        asked += [(a, b"five" + b[3:], options.model) for a, b, _ in asked if options.model]
         return asked + [(b"oqlist " + word, None, None) for word in REFUSED]
     if options.digits:
         asked = [b"unescape 1", b"unescape 4"]
     elif options.bodies:
         asked = [b"unescape %d" % mode for mode in range(7)] + [b"char", b"byte"]
     else:
-        return [(b"tok 0", b"tok 0", options.release), (b"tok 1", b"tok 1", options.debug)] + [(b"ident", b"ident", oracle) for oracle in both]
+        asked = [(b"tok 0", b"five 0", options.model), (b"tok 1", b"five 1", options.model)] if options.model else []
+        asked += [(b"tok 0", b"tok 0", options.release), (b"tok 1", b"tok 1", options.debug)]
+        return asked + [(b"ident", b"ident", oracle) for oracle in both]
     return [(task, task, oracle) for oracle in both for task in asked]
 
 
@@ -189,13 +227,36 @@ def barred(text, answer):
     return answer if place is None else b"7 %d" % len(chars[:place].encode())
 
 
-def started(answer):
-    """The same with where each token starts, the lengths before it added up: the Rust says no place."""
+# The runs of digits of a number, with no suffix: before the point, behind it, and of the exponent; and that of a hardware identifier.
+RUNS = re.compile(rb"(?:0x([0-9a-fA-F_]*)|0[bo]([0-9_]*)|([0-9_]+))(?:\.([0-9_]*))?(?:[eE][+-]?([0-9_]*))?|\$([0-9_]*)")
+
+# An underscore that has not a digit on both sides.
+STRAY = re.compile(rb"(?<![0-9a-fA-F])_|_(?![0-9a-fA-F])")
+
+
+def misplaced(kind, suffix, token):
+    """The place in a token of its first misplaced underscore: one of a run of its digits that has not a digit of the run on both sides. 0 for none."""
+    if kind not in (6, 24, *range(40, 56)):
+        return 0
+    runs = RUNS.fullmatch(token[:suffix or len(token)])
+    for i in range(1, 7):
+        stray = STRAY.search(runs[i] or b"")
+        if stray:
+            return runs.start(i) + stray.start()
+    return 0
+
+
+def whole(text, answer):
+    """The same with the words that the Rust does not say: where each token starts, the lengths before it added up, and its misplaced underscore."""
     number, also, *records = answer.split(b" ")
     if number != b"0":
         return answer
-    starts = itertools.accumulate((int(record.split(b",")[1]) for record in records), initial=0)
-    return b" ".join([number, also] + [b"%s,%d" % pair for pair in zip(records, starts)])
+    out, at = [number, also], 0
+    for record in records:
+        kind, length, suffix = map(int, record.split(b","))
+        out.append(b"%s,%d,%d" % (record, at, misplaced(kind, suffix, text[at:at + length])))
+        at += length
+    return b" ".join(out)
 
 
 def wanted(options, task, oracle, batch):
@@ -204,7 +265,7 @@ def wanted(options, task, oracle, batch):
         return [b"refused 1 0"] * len(batch)
     said = answers(oracle, task, batch)
     if task.startswith(b"tok"):
-        said = [started(barred(t, a)) for t, a in zip(batch, said)]
+        said = [whole(t, barred(t, a)) for t, a in zip(batch, said)]
     return [listing(t, a) for t, a in zip(batch, said)] if options.listings else said
 
 
@@ -230,6 +291,21 @@ def batches(stream, size):
         yield batch
 
 
+def chosen(options, rng, programs):
+    """The texts that are compared."""
+    if options.digits:
+        return digits()
+    if options.marks:
+        return itertools.chain(short(MARK_ALPHABET, options.short), marked(rng, options.random))
+    if options.underscores:
+        inside = (head + rest for rest in short(FIGURE_ALPHABET, options.short) for head in HEADS)
+        return itertools.chain(inside, figures(rng, options.random))
+    if options.bodies:
+        return itertools.chain(short(BODY_ALPHABET, options.short), bodies(rng, options.random))
+    fitting = [p for p in programs if len(p) <= 32000]
+    return itertools.chain(fitting, short(ALPHABET, options.short), texts(rng, options.random, programs))
+
+
 def main():
     parser = argparse.ArgumentParser()
     parser.add_argument("release")
@@ -239,34 +315,28 @@ def main():
     group.add_argument("--listings", action="store_true")
     group.add_argument("--bodies", action="store_true")
     group.add_argument("--digits", action="store_true")
-    parser.add_argument("--marks", action="store_true")
+    kind = parser.add_mutually_exclusive_group()
+    kind.add_argument("--marks", action="store_true")
+    kind.add_argument("--underscores", action="store_true")
+    parser.add_argument("--model")
     parser.add_argument("--short", type=int, default=3)
     parser.add_argument("--random", type=int, default=500000)
     parser.add_argument("--seed", type=int, default=1)
     parser.add_argument("--programs")
     options = parser.parse_args()
-    if options.marks and (options.bodies or options.digits):
-        parser.error("--marks goes with texts, not with bodies")
-    rng = random.Random(options.seed)
+    if (options.marks or options.underscores or options.model) and (options.bodies or options.digits):
+        parser.error("--marks, --underscores and --model go with texts, not with bodies")
     programs = [p.read_bytes() for p in sorted(pathlib.Path(options.programs).iterdir())] if options.programs else []
     total, wrong = 0, []
-    whole = [p for p in programs if len(p) <= 32000]
-    if options.digits:
-        stream = digits()
-    elif options.marks:
-        stream = itertools.chain(short(MARK_ALPHABET, options.short), marked(rng, options.random))
-    elif options.bodies:
-        stream = itertools.chain(short(BODY_ALPHABET, options.short), bodies(rng, options.random))
-    else:
-        stream = itertools.chain(whole, short(ALPHABET, options.short), texts(rng, options.random, programs))
-    for turn, batch in enumerate(batches(stream, 20000)):
+    for turn, batch in enumerate(batches(chosen(options, random.Random(options.seed), programs), 20000)):
         n, w = compare(options, batch, turn)
         total += n
         wrong += w
     for asked, text, theirs, ours in wrong[:10]:
-        print(asked.decode(), text.hex()[:300], "\nRust:", theirs.decode()[:300], "\nport:", ours.decode()[:300])
+        print(asked.decode(), text.hex()[:300], "\nwanted:", theirs.decode()[:300], "\nport:", ours.decode()[:300])
     print(f"{total} cases compared, {len(wrong)} different")
     sys.exit(1 if wrong else 0)
 
 
-main()
+if __name__ == "__main__":
+    main()

@@ -20,7 +20,7 @@ void *mmap(void *, size_t, int, int, int, long);
 /* the layouts that the archive has */
 typedef char answer_16[sizeof(oq3_answer) == 16 && offsetof(oq3_answer, also) == 8 ? 1 : -1];
 typedef char char_16[sizeof(oq3_char) == 16 && offsetof(oq3_char, wide) == 8 ? 1 : -1];
-typedef char records[sizeof(oq3_token) == 4 * OQ3_WORDS && offsetof(oq3_token, start) == 12 && sizeof(oq3_item) == 4 * OQ3_ITEM_WORDS ? 1 : -1];
+typedef char records[sizeof(oq3_token) == 4 * OQ3_WORDS && offsetof(oq3_token, start) == 12 && offsetof(oq3_token, misplaced) == 16 && sizeof(oq3_item) == 4 * OQ3_ITEM_WORDS ? 1 : -1];
 /* a list with room for so many tokens has it for so many items */
 typedef char items_fit[OQ3_ITEM_WORDS <= OQ3_WORDS ? 1 : -1];
 typedef char sight_24[sizeof(oq3_sight) == 24 && offsetof(oq3_sight, start) == 8 && offsetof(oq3_sight, length) == 16 ? 1 : -1];
@@ -109,29 +109,47 @@ typedef struct sample {
 
 static const sample tokens[] = {
     {"", 0, 0, {0}},
-    {"\"\"", 0, 1, {59, 2, 2, 0}},
-    {"\"0\n\"", 0, 1, {57, 4, 4, 0}},
-    {"\"0\n", 0, 1, {58, 3, 3, 0}},
-    {"$_", 0, 1, {24, 2, 0, 0}},
-    {"0b102", 0, 1, {40, 5, 5, 0}},
-    {"1e", 0, 1, {53, 2, 2, 0}},
-    {"1.e5", 0, 1, {52, 4, 2, 0}},
-    {"1._5", 0, 1, {52, 4, 2, 0}},
-    {"0B1", 0, 1, {44, 3, 1, 0}},
-    {"/*/**/", 0, 1, {3, 6, 0, 0}},
-    {"pragma", 0, 1, {5, 6, 0, 0}},
-    {"pragma", 1, 1, {8, 6, 0, 0}},
-    {"pragma x\ny", OQ3_DEFAULT_PROFILE, 3, {OQ3_KIND_PRAGMA, 8, 0, 0, OQ3_KIND_WHITESPACE, 1, 0, 8, OQ3_KIND_IDENT, 1, 0, 9}},
-    {"pragmatic x", OQ3_DEFAULT_PROFILE, 1, {OQ3_KIND_PRAGMA, 11, 0, 0}},
-    {"#pragma x", OQ3_DEFAULT_PROFILE, 1, {OQ3_KIND_PRAGMA, 9, 0, 0}},
-    {"// pragma", OQ3_DEFAULT_PROFILE, 1, {OQ3_KIND_LINE_COMMENT, 9, 0, 0}},
-    {"pragma x", OQ3_PROFILE_RELEASE, 3, {OQ3_KIND_IDENT, 6, 0, 0, OQ3_KIND_WHITESPACE, 1, 0, 6, OQ3_KIND_IDENT, 1, 0, 7}},
-    {"1..2", 0, 3, {52, 2, 2, 0, 12, 1, 0, 2, 44, 1, 1, 3}},
-    {"$_ 1sec", 0, 4, {24, 2, 0, 0, 4, 1, 0, 2, 44, 1, 1, 3, 5, 3, 0, 4}},
-    {"#prag", 0, 1, {7, 5, 0, 0}},
-    {"#pragmatic", 0, 1, {8, 10, 0, 0}},
-    {"0x1.5", 0, 1, {54, 5, 5, 0}},
-    {";,'", 0, 3, {OQ3_KIND_SEMI, 1, 0, 0, OQ3_KIND_COMMA, 1, 0, 1, OQ3_KIND_UNKNOWN, 1, 0, 2}},
+    {"\"\"", 0, 1, {59, 2, 2, 0, 0}},
+    {"\"0\n\"", 0, 1, {57, 4, 4, 0, 0}},
+    {"\"0\n", 0, 1, {58, 3, 3, 0, 0}},
+    {"$_", 0, 1, {24, 2, 0, 0, 1}},
+    {"0b102", 0, 1, {40, 5, 5, 0, 0}},
+    {"1e", 0, 1, {53, 2, 2, 0, 0}},
+    {"1.e5", 0, 1, {52, 4, 2, 0, 0}},
+    {"1._5", 0, 1, {52, 4, 2, 0, 0}},
+    {"0B1", 0, 1, {44, 3, 1, 0, 0}},
+    {"/*/**/", 0, 1, {3, 6, 0, 0, 0}},
+    {"pragma", 0, 1, {5, 6, 0, 0, 0}},
+    {"pragma", 1, 1, {8, 6, 0, 0, 0}},
+    {"pragma x\ny", OQ3_DEFAULT_PROFILE, 3, {OQ3_KIND_PRAGMA, 8, 0, 0, 0, OQ3_KIND_WHITESPACE, 1, 0, 8, 0, OQ3_KIND_IDENT, 1, 0, 9, 0}},
+    {"pragmatic x", OQ3_DEFAULT_PROFILE, 1, {OQ3_KIND_PRAGMA, 11, 0, 0, 0}},
+    {"#pragma x", OQ3_DEFAULT_PROFILE, 1, {OQ3_KIND_PRAGMA, 9, 0, 0, 0}},
+    {"// pragma", OQ3_DEFAULT_PROFILE, 1, {OQ3_KIND_LINE_COMMENT, 9, 0, 0, 0}},
+    {"pragma x", OQ3_PROFILE_RELEASE, 3, {OQ3_KIND_IDENT, 6, 0, 0, 0, OQ3_KIND_WHITESPACE, 1, 0, 6, 0, OQ3_KIND_IDENT, 1, 0, 7, 0}},
+    {"1..2", 0, 3, {52, 2, 2, 0, 0, 12, 1, 0, 2, 0, 44, 1, 1, 3, 0}},
+    {"$_ 1sec", 0, 4, {24, 2, 0, 0, 1, 4, 1, 0, 2, 0, 44, 1, 1, 3, 0, 5, 3, 0, 4, 0}},
+    {"#prag", 0, 1, {7, 5, 0, 0, 0}},
+    {"#pragmatic", 0, 1, {8, 10, 0, 0, 0}},
+    {"0x1.5", 0, 1, {54, 5, 5, 0, 0}},
+    {";,'", 0, 3, {OQ3_KIND_SEMI, 1, 0, 0, 0, OQ3_KIND_COMMA, 1, 0, 1, 0, OQ3_KIND_UNKNOWN, 1, 0, 2, 0}},
+    /* underscores that have not a digit on both sides */
+    {"1_", 0, 1, {44, 2, 2, 0, 1}},
+    {"1_0", 0, 1, {44, 3, 3, 0, 0}},
+    {"1__0", 0, 1, {44, 4, 4, 0, 1}},
+    {"1_s", 0, 2, {44, 2, 2, 0, 1, 5, 1, 0, 2, 0}},
+    {"$1_0", 0, 1, {6, 4, 0, 0, 0}},
+    {"$1_", 0, 1, {6, 3, 0, 0, 2}},
+    {"0x_", 0, 1, {47, 3, 3, 0, 2}},
+    {"0xf_f", 0, 1, {46, 5, 5, 0, 0}},
+    {"0x1.5_f", 0, 1, {54, 7, 6, 0, 5}},
+    {"0b1_2", 0, 1, {40, 5, 5, 0, 0}},
+    {"1.5_", 0, 1, {52, 4, 4, 0, 3}},
+    {"1e_5", 0, 1, {52, 4, 4, 0, 2}},
+    {"1.5e+_5", 0, 1, {52, 7, 7, 0, 5}},
+    {"1_e5_", 0, 1, {52, 5, 5, 0, 1}},
+    {"$\xF0\x9F\x98\x80_", 0, 1, {OQ3_KIND_INVALID_IDENT, 6, 0, 0, 0}},
+    {"\"0__1\"_", 0, 1, {OQ3_KIND_BIT_STR_TWICE, 7, 6, 0, 0}},
+    {"/*_*/ 1_2_;", 1, 4, {OQ3_KIND_BLOCK_COMMENT, 5, 0, 0, 0, OQ3_KIND_WHITESPACE, 1, 0, 5, 0, OQ3_KIND_INT_DECIMAL, 4, 4, 6, 3, OQ3_KIND_SEMI, 1, 0, 10, 0}},
 };
 
 static const sample items[] = {
@@ -162,11 +180,11 @@ static void lists(void) {
     {
         oq3_token row[2];
         CHECK(is(oq3_tokenize(BYTES("a;"), 2, OQ3_DEFAULT_PROFILE, (uint32_t *)row, OQ3_WORDS * 2), 0, 2));
-        CHECK(row[0].kind == OQ3_KIND_IDENT && row[0].length == 1 && row[0].suffix == 0 && row[0].start == 0);
-        CHECK(row[1].kind == OQ3_KIND_SEMI && row[1].length == 1 && row[1].suffix == 0 && row[1].start == 1);
-        CHECK(is(oq3_tokenize_rows(BYTES(" \n1x"), 4, OQ3_DEFAULT_PROFILE, row, 2), 0, 2));
-        CHECK(row[0].kind == OQ3_KIND_WHITESPACE && row[0].length == 2 && row[0].suffix == 0 && row[0].start == 0);
-        CHECK(row[1].kind == OQ3_KIND_INT_DECIMAL && row[1].length == 2 && row[1].suffix == 1 && row[1].start == 2);
+        CHECK(row[0].kind == OQ3_KIND_IDENT && row[0].length == 1 && row[0].suffix == 0 && row[0].start == 0 && row[0].misplaced == 0);
+        CHECK(row[1].kind == OQ3_KIND_SEMI && row[1].length == 1 && row[1].suffix == 0 && row[1].start == 1 && row[1].misplaced == 0);
+        CHECK(is(oq3_tokenize_rows(BYTES(" \n10_x"), 6, OQ3_DEFAULT_PROFILE, row, 2), 0, 2));
+        CHECK(row[0].kind == OQ3_KIND_WHITESPACE && row[0].length == 2 && row[0].suffix == 0 && row[0].start == 0 && row[0].misplaced == 0);
+        CHECK(row[1].kind == OQ3_KIND_INT_DECIMAL && row[1].length == 4 && row[1].suffix == 3 && row[1].start == 2 && row[1].misplaced == 2);
     }
 }
 
@@ -284,16 +302,19 @@ static void nothing(void) {
     CHECK(oq3_decode(NULL, 0, 0).wide == 0 && oq3_decode(NULL, 0, SIZE_MAX).code == 0);
 }
 
-/* tokens far from the text's first byte: behind a line comment of so many bytes, an LF and a semicolon */
+/* tokens far from the text's first byte: behind a line comment of so many bytes, an LF and a number; and an underscore so far into one */
 static void far_off(uint8_t *at, size_t n) {
-    uint32_t want[3 * OQ3_WORDS] = {OQ3_KIND_LINE_COMMENT, 0, 0, 0, OQ3_KIND_WHITESPACE, 1, 0, 0, OQ3_KIND_SEMI, 1, 0, 0};
-    want[1] = want[7] = (uint32_t)n;
-    want[11] = want[7] + 1;
+    uint32_t want[3 * OQ3_WORDS] = {OQ3_KIND_LINE_COMMENT, 0, 0, 0, 0, OQ3_KIND_WHITESPACE, 1, 0, 0, 0, OQ3_KIND_INT_DECIMAL, 2, 2, 0, 1};
+    uint32_t alone[OQ3_WORDS] = {OQ3_KIND_INT_DECIMAL, 0, 0, 0, 0};
+    want[1] = want[8] = alone[4] = (uint32_t)n;
+    want[13] = alone[1] = alone[2] = (uint32_t)n + 1;
     memcpy(at, "//", 2);
-    memcpy(at + n, "\n;", 2);
-    CHECK(fills_in(3 * OQ3_WORDS, oq3_tokenize, at, n + 2, 0, want, 3, 3 * OQ3_WORDS) && fills_in(3 * OQ3_WORDS, tokenize_rows, at, n + 2, 1, want, 3, 3 * OQ3_WORDS));
-    memcpy(at, "\0\0", 2);
-    memcpy(at + n, "\0\0", 2);
+    memcpy(at + n, "\n7_", 3);
+    CHECK(fills_in(3 * OQ3_WORDS, oq3_tokenize, at, n + 3, 0, want, 3, 3 * OQ3_WORDS) && fills_in(3 * OQ3_WORDS, tokenize_rows, at, n + 3, 1, want, 3, 3 * OQ3_WORDS));
+    memset(at, '1', n);
+    at[n] = '_';
+    CHECK(fills_in(OQ3_WORDS, oq3_tokenize, at, n + 1, 0, alone, 1, OQ3_WORDS) && fills_in(OQ3_WORDS, tokenize_rows, at, n + 1, 1, alone, 1, OQ3_WORDS));
+    memset(at, 0, n + 3);
 }
 
 /* one byte more than the longest text: memory that is reserved, of which little is touched */
@@ -635,7 +656,7 @@ static const struct {
 /* where rules turn, with a character behind that is not ASCII, so that each function reaches those that it calls */
 static const char *const turning[] = {
     "", "\xFF", "x\xCE\xB8", "\xE4\xB8\xAD\xF0\x9F\x98\x80", "\\u{4\xC3\xA9}", "\\u{1F600}", "\\x4\xC3\xA9", "\\\n\n \xC2\xA0", "\r\xC3\xA9\\q",
-    "1.5e\xC3\xA9 1.5e+3\xC3\xA9 0x1.5\xC2\xB5s 0b1_\xCE\xBCz 1e\xC3\xA9 0o\xC3\xA9 1.\xC3\xA9 2..\xC3\xA9 3dt 4ns",
+    "1.5e\xC3\xA9 1.5e+3\xC3\xA9 0x1.5\xC2\xB5s 0b1_\xCE\xBCz 1e\xC3\xA9 0o\xC3\xA9 1.\xC3\xA9 2..\xC3\xA9 3dt 4ns 0x_f_\xC3\xA9 1_.5_e_\xC3\xA9",
     "\"01_1\"\xC3\xA9 \"0__1\"x \"0\n\" \"\xC3\xA9\\\"\" $_\xC3\xA9 $0 @\xC3\xA9 x\n#pragma \xC3\xA9\npragma z\xC3\xA9\n#prag\xC3\xA9 ' ; =\xC3\xA9",
     "/* /* \xC3\xA9 */ */ // \xC3\xA9\n\xE2\x80\xA8 a\xF0\x9F\x98\x80 /* \"",
 };
@@ -805,13 +826,14 @@ static void say_records(oq3_answer a, size_t width) {
         say(list[i], i % width == 0 ? " " : ",");
 }
 
-/* the records tile the text: each starts behind all before it */
+/* the records tile the text: each starts behind all before it; and where one names an underscore there is one */
 static bool tiles(oq3_answer a) {
     size_t at = 0, i;
     for (i = 0; a.number == 0 && i < a.also; i++) {
-        if (list[OQ3_WORDS * i + 1] == 0 || list[OQ3_WORDS * i + 3] != at)
+        uint32_t length = list[OQ3_WORDS * i + 1], misplaced = list[OQ3_WORDS * i + 4];
+        if (length == 0 || list[OQ3_WORDS * i + 3] != at || length <= misplaced || (misplaced != 0 && text[at + misplaced] != '_'))
             return false;
-        at += list[OQ3_WORDS * i + 1];
+        at += length;
     }
     return a.number != 0 || at == text_len;
 }

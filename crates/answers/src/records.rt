@@ -161,6 +161,7 @@ fn print_record(t: Token) {
     print_word(b" ", t.len);
     print_word(b" ", t.suffix);
     print_word(b" ", t.start);
+    print_word(b" ", t.misplaced);
 }
 
 fn print_row(row: Row, n: usize) {
@@ -187,6 +188,7 @@ pub fn rowroom(text: &[u8], asked: Asked) {
         len: BLANK,
         suffix: BLANK,
         start: BLANK,
+        misplaced: BLANK,
     };
     let given = rows_of(text, asked.first, [blank; 64], n);
     let row = given.row;

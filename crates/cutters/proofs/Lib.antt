@@ -1,3 +1,4 @@
 pub mod Records
 pub mod Cutter
 pub mod Starts
+pub mod Underscores

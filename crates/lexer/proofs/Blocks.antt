@@ -18,8 +18,9 @@ use Rattle.unicode.specs.Steps.{Place}
 use Rattle.unicode.specs.Text.{left, skip}
 use Rattle.unicode.proofs.Text.{chars-nil, chars-first, from-place}
 use Rattle.unicode.proofs.Ascii.{wide, chars-ascii}
-use Rattle.lexer.specs.Cut.{peek, notLf, opens, closes, block, slash}
-use Rattle.lexer.specs.Kinds.{lineComment, blockComment, unclosedComment, slashMark}
+use Rattle.cutters.specs.Digits.{peek}
+use Rattle.lexer.specs.Cut.{notLf, opens, closes, block, slash}
+use Rattle.cutters.specs.Kinds.{lineComment, blockComment, unclosedComment, slashMark}
 use Rattle.lexer.specs.Steps.{Parted}
 use Rattle.lexer.proofs.Bytewise.{peek-same, tail-same, tail-less, peek-drop, tail-drop, stands}
 

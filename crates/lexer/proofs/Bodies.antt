@@ -17,8 +17,9 @@ use Rattle.lists.proofs.Cut.{by-length}
 use Rattle.unicode.specs.Utf8.{first, chars}
 use Rattle.unicode.proofs.Text.{chars-nil, chars-first}
 use Rattle.unicode.proofs.Ascii.{wide, chars-ascii}
-use Rattle.lexer.specs.Cut.{peek, Quote, escapes, quoted, isBit, withoutLf, twice, quoteKind}
-use Rattle.lexer.specs.Kinds.{str, bitStr}
+use Rattle.cutters.specs.Digits.{peek}
+use Rattle.lexer.specs.Cut.{Quote, escapes, quoted, isBit, withoutLf, twice, quoteKind}
+use Rattle.cutters.specs.Kinds.{str, bitStr}
 use Rattle.lexer.specs.Steps.{Quoted, Added, bitsBy}
 use Rattle.lexer.proofs.Bytewise.{peek-same, peek-ascii, tail-same, tail-less, peek-drop, tail-drop, stands}
 

@@ -1,4 +1,4 @@
--- The loops that go byte by byte: only ASCII ends a line, and only ASCII is a digit.
+-- The loops that go byte by byte: only ASCII ends a line.
 -- Assumes nothing.
 use Prim.Native.Nat.{ℕ, zero, suc, _+_, _≤_, _<_}
 use native.Mathlib.Decide.{decLt}
@@ -9,39 +9,23 @@ use mathlib.Core.Bool.{Bool, true, false, not, _&&_, _||_}
 use mathlib.Core.List.{List, [], _∷_, tail}
 use lib.ListN.{length, drop, getD, List·getD-eq-default}
 use lib.Dec.{eqb}
-use borrow.Author.Tests.{eq-eqb, ne-eqb, lt-leb, not-true}
-use Rattle.lists.proofs.Bools.{and-false}
+use borrow.Author.Tests.{eq-eqb, ne-eqb, not-true}
 use Rattle.unicode.specs.Utf8.{first, chars}
-use Rattle.unicode.specs.Steps.{Place, Eating, Ate}
+use Rattle.unicode.specs.Steps.{Place, Eating}
 use Rattle.unicode.specs.Text.{left, keep, skip}
 use Rattle.unicode.proofs.Text.{chars-nil, chars-first}
-use Rattle.unicode.proofs.Ascii.{chars-ascii, wide-code, Going, going-none, going-on, going-halt, going-end, skip-halt, skip-end}
-use Rattle.lexer.specs.Cut.{peek, notLf, isDigit, isHexDigit, orUnderscore, met}
+use Rattle.unicode.proofs.Ascii.{chars-ascii, wide-code, Going, going-none, going-on, skip-halt, skip-end}
+use Rattle.cutters.specs.Digits.{peek}
+use Rattle.lexer.specs.Cut.{notLf}
 use Rattle.lexer.specs.Steps.{Ran}
 
 not-lf-wide : (c : ℕ) → 0x80 ≤ c → notLf c ≡ true
 unfolding notLf
 not-lf-wide c h = rw (ne-eqb c 0x0A (λ e. omega arith))
 
-digit-wide : (c : ℕ) → 0x80 ≤ c → orUnderscore isDigit c ≡ false
-unfolding isDigit
-digit-wide c h = simp (ne-eqb c 0x5F (λ e. omega arith), lt-leb c 0x39 (omega arith), and-false)
-
-hex-wide : (c : ℕ) → 0x80 ≤ c → orUnderscore isHexDigit c ≡ false
-unfolding isHexDigit isDigit
-hex-wide c h =
-    simp (ne-eqb c 0x5F (λ e. omega arith), lt-leb c 0x39 (omega arith), lt-leb c 0x46 (omega arith), lt-leb c 0x66 (omega arith), and-false)
-
 module _ {s : List ℕ} {at₀ at b : ℕ} {f : Bool} where
   pub line-halt : Going notLf keep s at₀ tt at tt → b ≡ getD s at 0 → at < length s → f ≡ notLf b → not f ≡ true → Place s at₀ at (skip notLf (left s at₀))
   line-halt = skip-halt not-lf-wide
-
-  module _ {x₀ x : Bool} where
-    pub digit-halt : Going (orUnderscore isDigit) (met isDigit) s at₀ x₀ at x → b ≡ getD s at 0 → at < length s → f ≡ orUnderscore isDigit b → not f ≡ true → Ate (orUnderscore isDigit) (met isDigit) s at₀ x₀ at x
-    digit-halt = going-halt digit-wide
-
-    pub hex-halt : Going (orUnderscore isHexDigit) (met isHexDigit) s at₀ x₀ at x → b ≡ getD s at 0 → at < length s → f ≡ orUnderscore isHexDigit b → not f ≡ true → Ate (orUnderscore isHexDigit) (met isHexDigit) s at₀ x₀ at x
-    hex-halt = going-halt hex-wide
 
 -- a run of ASCII stops at the end, at what is not ASCII, or where the test fails
 module _ {p : ℕ → Bool} {s : List ℕ} {at₀ at : ℕ} (e : Eating p keep s at₀ tt at tt) where
@@ -64,14 +48,7 @@ module _ {s : List ℕ} {at₀ at : ℕ} where
   pub line-end : Going notLf keep s at₀ tt at tt → length s ≤ at → Place s at₀ at (skip notLf (left s at₀))
   line-end = skip-end not-lf-wide
 
-  module _ {x₀ x : Bool} where
-    pub digit-end : Going (orUnderscore isDigit) (met isDigit) s at₀ x₀ at x → length s ≤ at → Ate (orUnderscore isDigit) (met isDigit) s at₀ x₀ at x
-    digit-end = going-end digit-wide
-
-    pub hex-end : Going (orUnderscore isHexDigit) (met isHexDigit) s at₀ x₀ at x → length s ≤ at → Ate (orUnderscore isHexDigit) (met isHexDigit) s at₀ x₀ at x
-    hex-end = going-end hex-wide
-
-pub ruleset bytewise = (going-none, going-on, line-halt, line-end, digit-halt, digit-end, hex-halt, hex-end)
+pub ruleset bytewise = (going-none, going-on, line-halt, line-end)
 
 -- ---- what is peeked, by characters and by bytes
 pub peek-same : (s : List ℕ) (k : ℕ) → k < 0x80 → eqb (peek (chars s)) k ≡ eqb (peek s) k

@@ -15,8 +15,9 @@ use Rattle.unicode.proofs.Rows.{every, each}
 use Rattle.ucd.specs.Properties.{asciiStart, testedIn}
 use Rattle.ucd.proofs.Member.{Outside, here, later, outside}
 use Rattle.letters.specs.Chars.{whitespace, isWhitespace}
-use Rattle.lexer.specs.Kinds.{marks, markIn}
-use Rattle.lexer.specs.Cut.{isDigit, wideEmoji}
+use Rattle.cutters.specs.Kinds.{marks, markIn}
+use Rattle.cutters.specs.Digits.{isDigit}
+use Rattle.lexer.specs.Cut.{wideEmoji}
 use Rattle.lexer.specs.Unicode.{startIn, emojiIn}
 use Rattle.lexer.specs.Steps.{Lettered}
 

@@ -4,11 +4,14 @@ pub mod Ident
 pub mod Steps
 pub mod Bytewise
 pub mod Blocks
+pub mod Underscores
+pub mod Numerals
 pub mod Digits
 pub mod Names
 pub mod Bodies
 pub mod Dispatch
 pub mod Places
+pub mod Found
 pub mod Advancing
 pub mod Shapes
 pub mod Unique

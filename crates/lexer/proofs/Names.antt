@@ -5,20 +5,21 @@ use native.Mathlib.Decide.{decLt}
 use native.Mathlib.Omega.{arith}
 use native.Mathlib.Numerals.{add-one}
 use mathlib.Core.Path.{_≡_, refl, ap, sym, _∙_}
-use mathlib.Core.Bool.{Bool, true, false, cond}
+use mathlib.Core.Bool.{Bool, true, false, cond, false≢true}
 use mathlib.Core.List.{List, [], _∷_}
 use lib.ListN.{length, drop, getD, drop-of-length-le}
 use lib.Seq.{drop-cons, drop-drop}
 use lib.Dec.{leb}
 use borrow.Author.Tests.{eq-eqb, ne-eqb, lt-leb}
 use Rattle.unicode.specs.Text.{Decoded, left, skip}
-use Rattle.unicode.specs.Steps.{Place, Ate}
+use Rattle.unicode.specs.Steps.{Place}
 use Rattle.unicode.proofs.Text.{decoded-point, left-end, from-place, skip-nil, skip-stop}
 use Rattle.unicode.proofs.Ascii.{ascii-decoded}
-use Rattle.lexer.specs.Cut.{peek, notLf, isDigit, orUnderscore, met, digits, agree, pragmaWord, pound, wideEmoji, goesOn, name, word, annotated, hardware}
-use Rattle.lexer.specs.Kinds.{ident, hardwareIdent, invalidIdent, pragma, annotation, atSign, dollar}
+use Rattle.cutters.specs.Digits.{peek, isDigit}
+use Rattle.lexer.specs.Cut.{notLf, orUnderscore, met, digits, agree, pragmaWord, pound, wideEmoji, goesOn, name, word, annotated, hardware}
+use Rattle.cutters.specs.Kinds.{ident, hardwareIdent, invalidIdent, pragma, annotation, atSign, dollar, isWire}
 use Rattle.lexer.specs.Unicode.{startIn, moreIn, emojiIn}
-use Rattle.lexer.specs.Steps.{Parted, Agreed, Ran}
+use Rattle.lexer.specs.Steps.{Parted, Agreed, Ran, Run, Wired}
 use Rattle.lexer.proofs.Digits.{stay, parted, ate-digits}
 
 -- ---- a word against the text: to go on from here comes to the same
@@ -158,12 +159,23 @@ module _ (more emoji s : List ℕ) (at : ℕ) where
         parted (hardware (moreIn more) (emojiIn emoji)) s at (invalidIdent, skip (goesOn (moreIn more) (emojiIn emoji)) (skip (moreIn more) (left s at))) (rw h) k
         (from-place p q (ap (skip (goesOn (moreIn more) (emojiIn emoji))) (p .there)))
 
-    pub hardware-digits : {end kind : ℕ} {any : Bool} → b ≡ false → Ate (orUnderscore isDigit) (met isDigit) s at false end any → kind ≡ cond any hardwareIdent dollar → Parted (hardware (moreIn more) (emojiIn emoji)) s at kind end
+    pub hardware-digits : {found end kind : ℕ} {any : Bool} → b ≡ false → Run isDigit false s at any found end → kind ≡ cond any hardwareIdent dollar → Parted (hardware (moreIn more) (emojiIn emoji)) s at kind end
     unfolding hardware
     hardware-digits t q k =
         let h : wideEmoji (emojiIn emoji) (peek (left s at)) ≡ false = rw f at (sym o ∙ t) in
-        let d = ate-digits isDigit q in
+        let d = ate-digits isDigit (q .ate) in
         parted (hardware (moreIn more) (emojiIn emoji)) s at (cond (digits isDigit (left s at) .0) hardwareIdent dollar, digits isDigit (left s at) .1) (rw h) (rw (← d .what) k) (d .place)
+
+module _ {s : List ℕ} {at end kind found : ℕ} where
+  pub wired-fake : kind ≡ invalidIdent → found ≡ 0 → Wired s at kind end found
+  wired-fake k z = record { run = λ t. absurd (false≢true (rw k at t)); none = λ t. (rw k, z) }
+
+  pub wired-digits : {any : Bool} → Run isDigit false s at any found end → kind ≡ cond any hardwareIdent dollar → Wired s at kind end found
+  wired-digits {any} q k = record { run = λ t. (q .first, q .stop); none = λ t. absurd (false≢true (sym t ∙ ap isWire k ∙ either any)) }
+    where
+      either : (b : Bool) → isWire (cond b hardwareIdent dollar) ≡ true
+      either true = refl
+      either false = refl
 
 -- ---- behind @
 module _ (start s : List ℕ) (at : ℕ) {x : ℕ} {b : Bool} (f : x ≡ peek (left s at)) (o : b ≡ startIn start x) where
@@ -179,4 +191,4 @@ module _ (start s : List ℕ) (at : ℕ) {x : ℕ} {b : Bool} (f : x ≡ peek (l
       let h : startIn start (peek (left s at)) ≡ false = rw f at (sym o ∙ t) in
       parted (annotated (startIn start)) s at (atSign, left s at) (rw h) k (stay l)
 
-pub ruleset naming = (pound-pragma, pound-else, name-fake, name-plain, name-ascii, name-run, word-pragma, word-not-pragma, word-plain, annotated-line, annotated-none, hardware-fake, hardware-digits)
+pub ruleset naming = (pound-pragma, pound-else, name-fake, name-plain, name-ascii, name-run, word-pragma, word-not-pragma, word-plain, annotated-line, annotated-none, hardware-fake, hardware-digits, wired-fake, wired-digits)

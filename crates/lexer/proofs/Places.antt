@@ -6,7 +6,7 @@ use native.Mathlib.Omega.{arith}
 use mathlib.Core.Path.{_≡_, refl, ap, sym, _∙_}
 use mathlib.Core.Bool.{true}
 use mathlib.Core.List.{List, [], _∷_}
-use lib.ListN.{length, drop, length-drop}
+use lib.ListN.{length, drop, length-take, length-drop}
 use lib.Seq.{drop-drop}
 use Rattle.lists.proofs.Cut.{cut-few}
 use Rattle.lists.proofs.Ends.{ends-cons}
@@ -14,8 +14,10 @@ use Rattle.unicode.specs.Utf8.{first, next, chars}
 use Rattle.unicode.specs.Text.{byteLength, left}
 use Rattle.unicode.proofs.Text.{point-at, left-end, between, bytes-chars, chars-behind, ends-bytes}
 use Rattle.unicode.proofs.Valid.{width-some}
-use Rattle.cutters.specs.Records.{Token}
-use Rattle.lexer.specs.Kinds.{eof}
+use Rattle.cutters.specs.Records.{Token, bytesOf}
+use Rattle.cutters.specs.Underscores.{misplacedIn, misplacedOf}
+use Rattle.cutters.proofs.Underscores.{found-least}
+use Rattle.cutters.specs.Kinds.{eof}
 use Rattle.lexer.specs.Cut.{Letters, advance, advanceToken, nextToken, tokens}
 use Rattle.lexer.specs.Steps.{Cuts}
 use Rattle.lexer.specs.Promises.{tokensBy, tokens3, profile3, tokensOf, front, Advanced}
@@ -36,7 +38,7 @@ module _ (u : Letters) (profile : ℕ) where
   tokens-step c t = tokens-cons u profile c t
 
   -- the first token at a place before the end
-  pub tokens-at : {s : List ℕ} {at kind suffixAt end : ℕ} → at < length s → Cuts u profile s at kind suffixAt end →
+  pub tokens-at : {s : List ℕ} {at kind suffixAt found end : ℕ} → at < length s → Cuts u profile s at kind suffixAt found end →
       tokensBy u profile (drop at s) ≡ record { kind = kind; len = end - at; suffix = suffixAt - at } ∷ tokensBy u profile (drop end s)
   tokens-at {s} {at} {kind} {suffixAt} {end} h a =
       let c = point-at s at h in
@@ -68,23 +70,28 @@ module _ (u : Letters) (profile : ℕ) where
   next-within c t s e = (omega (arith, ap byteLength e, bytes-chars s), omega (arith, ap byteLength e, bytes-chars s))
 
 -- ---- what `advance_token` answers
-pub advanced : {u : Letters} {profile : ℕ} {s : List ℕ} {at kind suffixAt end : ℕ} → at < length s → Cuts u profile s at kind suffixAt end → Advanced u profile s at kind suffixAt end
+pub advanced : {u : Letters} {profile : ℕ} {s : List ℕ} {at kind suffixAt found end : ℕ} → at < length s → Cuts u profile s at kind suffixAt found end → Advanced u profile s at kind suffixAt found end
 unfolding front
 advanced {u} {profile} h c =
     let v = tokens-at u profile h c in
-    record { kind-is = rw v; suffix-is = rw v (omega (arith, c .suffix-place .after)); end-is = rw v (omega (arith, c .end-place .after)) }
+    record {
+      kind-is = rw v;
+      suffix-is = rw v (omega (arith, c .suffix-place .after));
+      found-is = rw v (c .found-is);
+      end-is = rw v (omega (arith, c .end-place .after));
+    }
 
 -- at the end there is none
 pub none-left : (u : Letters) (profile : ℕ) (s : List ℕ) (at : ℕ) → length s ≤ at → tokensBy u profile (drop at s) ≡ []
 none-left u profile s at l = ap (tokens u profile) (left-end s at l) ∙ tokens-nil u profile
 
-pub none-at-end : {u : Letters} {profile : ℕ} {s : List ℕ} {at kind suffixAt end : ℕ} → length s ≤ at → kind ≡ eof → suffixAt ≡ at → end ≡ at → Advanced u profile s at kind suffixAt end
-unfolding front
-none-at-end {u} {profile} {s} {at} l k m e =
+pub none-at-end : {u : Letters} {profile : ℕ} {s : List ℕ} {at kind suffixAt found end : ℕ} → length s ≤ at → kind ≡ eof → suffixAt ≡ at → found ≡ 0 → end ≡ at → Advanced u profile s at kind suffixAt found end
+unfolding front misplacedOf misplacedIn
+none-at-end {u} {profile} {s} {at} l k m f e =
     let v = none-left u profile s at l in
-    record { kind-is = rw v k; suffix-is = rw v (omega arith); end-is = rw v (omega arith) }
+    record { kind-is = rw v k; suffix-is = rw v (omega arith); found-is = rw v f; end-is = rw v (omega arith) }
 
-module _ (u : Letters) (profile : ℕ) (s : List ℕ) (at kind suffixAt end : ℕ) (a : Advanced u profile s at kind suffixAt end) where
+module _ (u : Letters) (profile : ℕ) (s : List ℕ) (at kind suffixAt found end : ℕ) (a : Advanced u profile s at kind suffixAt found end) where
   -- ---- before the end
   module _ (h : at < length s) where
     abbrev c : ℕ
@@ -138,6 +145,9 @@ module _ (u : Letters) (profile : ℕ) (s : List ℕ) (at kind suffixAt end : �
 
   pub end-within : end ≤ max at (length s)
   end-within = elim (decLt at (length s)) [ yes h ↦ omega (arith, end-here h, within h .0) | no n ↦ omega (arith, end-there (omega arith)) ]
+
+  pub found-within : found ≤ length s
+  found-within = omega (arith, a .found-is, found-least (front (tokensBy u profile (drop at s)) .kind) (front (tokensBy u profile (drop at s)) .suffix) (bytesOf s at (front (tokensBy u profile (drop at s)))), length-take (front (tokensBy u profile (drop at s)) .len) (drop at s), length-drop at s)
 
   pub suffix-after : at ≤ suffixAt
   suffix-after = omega (arith, a .suffix-is)

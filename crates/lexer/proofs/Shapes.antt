@@ -13,8 +13,9 @@ use Rattle.lists.proofs.Cut.{cut-nil, cut-cons}
 use Rattle.lists.proofs.Ends.{ends-all, ends-cons, ends-then, ends-tail, ends-drop, ends-eat, ends-length}
 use Rattle.unicode.specs.Text.{skip, keep}
 use Rattle.letters.specs.Chars.{isWhitespace}
-use Rattle.lexer.specs.Kinds.{marks, markIn, isPlain, isLiteral, int, float, bitStr}
-use Rattle.lexer.specs.Cut.{Letters, Piece, Quote, peek, notLf, isDigit, isHexDigit, isE, orUnderscore, met, opens, closes, block, slash, digits, exponent, exponentOf, point, fraction, based, number, isUnit, escapes, quoted, quoteKind, isBit, withoutLf, twice, pragmaWord, agree, pound, wideEmoji, goesOn, name, word, annotated, hardware, identifier, numberSuffix, advance, nextToken, tokens}
+use Rattle.cutters.specs.Kinds.{marks, markIn, isPlain, isLiteral, int, float, bitStr}
+use Rattle.cutters.specs.Digits.{peek, isDigit, isHexDigit}
+use Rattle.lexer.specs.Cut.{Letters, Piece, Quote, notLf, isE, orUnderscore, met, opens, closes, block, slash, digits, exponent, exponentOf, point, fraction, based, number, isUnit, escapes, quoted, quoteKind, isBit, withoutLf, twice, pragmaWord, agree, pound, wideEmoji, goesOn, name, word, annotated, hardware, identifier, numberSuffix, advance, nextToken, tokens}
 
 ends-skip : (p : ℕ → Bool) (l : List ℕ) → Ends (skip p l) l
 unfolding skip

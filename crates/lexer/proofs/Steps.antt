@@ -11,7 +11,7 @@ use Rattle.unicode.specs.Utf8.{first}
 use Rattle.unicode.specs.Text.{Decoded, left}
 use Rattle.unicode.specs.Steps.{Place}
 use Rattle.unicode.proofs.Text.{decoded-point, decoded-end, left-end}
-use Rattle.lexer.specs.Cut.{peek}
+use Rattle.cutters.specs.Digits.{peek}
 
 -- ---- the next character, and the place behind it
 pub first-is : {s : List ℕ} {at code wide : ℕ} → Decoded s at code wide → code ≡ peek (left s at)

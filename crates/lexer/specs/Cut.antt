@@ -8,16 +8,11 @@ use lib.ListN.{length, drop}
 use Rattle.lists.specs.All.{all}
 use Rattle.lists.specs.Cut.{cut}
 use Rattle.lists.specs.Eat.{eat}
-use Rattle.unicode.specs.Ranges.{_to_, inRange}
 use Rattle.unicode.specs.Text.{byteLength, skip}
+use Rattle.cutters.specs.Digits.{peek, isDigit, isHexDigit}
 use Rattle.cutters.specs.Records.{Token}
 use Rattle.letters.specs.Chars.{isWhitespace}
-use Rattle.lexer.specs.Kinds.{eof, lineComment, blockComment, unclosedComment, whitespaceKind, ident, hardwareIdent, invalidIdent, pragma, annotation, atSign, dollar, slashMark, unknown, marks, markIn, int, float, str, bitStr}
-
--- what peeking sees: NUL at the end of the text
-abbrev pub peek : List ℕ → ℕ
-peek [] = 0
-peek (c ∷ t) = c
+use Rattle.cutters.specs.Kinds.{eof, lineComment, blockComment, unclosedComment, whitespaceKind, ident, hardwareIdent, invalidIdent, pragma, annotation, atSign, dollar, slashMark, unknown, marks, markIn, int, float, str, bitStr}
 
 -- which characters begin an identifier, which go on with one, and which are emoji
 pub record Letters : Type 0 where
@@ -28,12 +23,6 @@ pub record Letters : Type 0 where
 -- ---- tests on one character
 unfoldable pub notLf : ℕ → Bool
 notLf c = not (eqb c 0x0A)
-
-unfoldable pub isDigit : ℕ → Bool
-isDigit c = inRange c (0x30 to 0x39)
-
-unfoldable pub isHexDigit : ℕ → Bool
-isHexDigit c = isDigit c || (inRange c (0x41 to 0x46) || inRange c (0x61 to 0x66))
 
 abbrev pub isE : ℕ → Bool
 isE c = eqb c 0x65 || eqb c 0x45

@@ -1,4 +1,3 @@
-pub mod Kinds
 pub mod Cut
 pub mod Unicode
 pub mod Promises

@@ -9,8 +9,8 @@ use lib.ListN.{drop}
 use Rattle.unicode.specs.Utf8.{chars}
 use Rattle.text.specs.Answer.{done, checkText, _andThen_}
 use Rattle.letters.specs.Chars.{isIdent}
-use Rattle.lexer.specs.Kinds.{eof}
-use Rattle.cutters.specs.Records.{Token}
+use Rattle.cutters.specs.Kinds.{eof}
+use Rattle.cutters.specs.Records.{Token, misplacedAt}
 use Rattle.lexer.specs.Cut.{Letters, tokens}
 use Rattle.lexer.specs.Unicode.{unicode}
 
@@ -35,10 +35,11 @@ front [] = record { kind = eof; len = 0; suffix = 0 }
 front (t ∷ ts) = t
 
 -- what `advance_token` answers at a place of any bytes: the kind of the token there, where its suffix starts (of no literal, where it starts
--- itself), and where it ends
-pub record Advanced (u : Letters) (profile : ℕ) (s : List ℕ) (at kind suffixAt end : ℕ) : Type 0 where
+-- itself), how far into it its first misplaced underscore stands, and where it ends
+pub record Advanced (u : Letters) (profile : ℕ) (s : List ℕ) (at kind suffixAt found end : ℕ) : Type 0 where
   pub kind-is : kind ≡ front (tokensBy u profile (drop at s)) .kind
   pub suffix-is : suffixAt ≡ at + front (tokensBy u profile (drop at s)) .suffix
+  pub found-is : found ≡ misplacedAt s at (front (tokensBy u profile (drop at s)))
   pub end-is : end ≡ at + front (tokensBy u profile (drop at s)) .len
 
 -- whether a text is an identifier: 1 for yes, 0 for no

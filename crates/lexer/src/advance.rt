@@ -1,5 +1,6 @@
 // The token at a place: decided by its first character, in the order of the tests.
-ghost use Prim.Native.Nat.{_≤_};
+ghost use mathlib.Core.Path.{_≡_};
+ghost use Prim.Native.Nat.{_-_, _≤_};
 ghost use lib.ListN.{length};
 ghost use Rattle.lexer.specs.Unicode.{startIn, moreIn, lent};
 ghost use Rattle.lexer.specs.Steps.{Stands, Lettered, NumberAt, StringAt, LiteralAt, Plainly, Cuts};
@@ -10,6 +11,7 @@ use crate::cursor::Cursor;
 use crate::cursor::is_id_start_in;
 use crate::cursor::is_wide_emoji;
 use crate::kinds;
+use crate::numbers::Figures;
 use crate::numbers::eat_literal_suffix;
 use crate::numbers::has_timing_or_imaginary_suffix;
 use crate::numbers::number;
@@ -23,25 +25,48 @@ use unicode::utf8::decode;
 
 // A token that is no literal: its suffix is told at its own start.
 fn plain(at: usize, kind: u32, end: Cursor) -> Piece
-    ensures { λ r. ⌜ Plainly at kind (end .at) (r .kind) (r .suffix) (r .end) ⌝ }
+    ensures { λ r. ⌜ Plainly at kind 0 (end .at) (r .kind) (r .suffix) (r .misplaced) (r .end) ⌝ }
 {
     Piece {
         kind,
         suffix: at,
+        misplaced: 0,
         end: end.at,
     }
 }
 
 fn plain_part(at: usize, p: Part) -> Piece
-    ensures { λ r. ⌜ Plainly at (p .kind) (p .cursor .at) (r .kind) (r .suffix) (r .end) ⌝ }
+    ensures { λ r. ⌜ Plainly at (p .kind) 0 (p .cursor .at) (r .kind) (r .suffix) (r .misplaced) (r .end) ⌝ }
 {
     plain(at, p.kind, p.cursor)
 }
 
+// The place in a token that starts at `at`, of a place in the text; none, which is 0, stays so.
+fn place_in(at: usize, found: usize) -> usize
+    ensures { λ r. ⌜ r ≡ found - at ⌝ }
+{
+    if found < at {
+        return 0;
+    }
+    found - at
+}
+
+// A hardware identifier, or what else begins with a dollar sign.
+fn wire(at: usize, f: Figures) -> Piece
+    ensures { λ r. ⌜ Plainly at (f .kind) (f .misplaced) (f .cursor .at) (r .kind) (r .suffix) (r .misplaced) (r .end) ⌝ }
+{
+    Piece {
+        kind: f.kind,
+        suffix: at,
+        misplaced: place_in(at, f.misplaced),
+        end: f.cursor.at,
+    }
+}
+
 // A quoted text, behind its quote.
-fn string(text: &[u8], from: Cursor, start: &[u32], more: &[u32]) -> Piece
+fn string(text: &[u8], at: usize, from: Cursor, start: &[u32], more: &[u32]) -> Piece
     requires { ⌜ from .at ≤ length (now text) ⌝ }
-    ensures { λ r. ⌜ StringAt (startIn (now (start .entry))) (moreIn (now (more .entry))) (now (text .entry)) (from .at) (r .kind) (r .suffix) (r .end) ⌝ }
+    ensures { λ r. ⌜ StringAt (startIn (now (start .entry))) (moreIn (now (more .entry))) (now (text .entry)) at (from .at) (r .kind) (r .suffix) (r .misplaced) (r .end) ⌝ }
 {
     let q = double_quoted_string(text, from);
     let cursor = q.cursor;
@@ -50,27 +75,38 @@ fn string(text: &[u8], from: Cursor, start: &[u32], more: &[u32]) -> Piece
         return Piece {
             kind: q.kind,
             suffix: cursor.at,
+            misplaced: 0,
             end: end.at,
         };
     }
     Piece {
         kind: q.kind,
         suffix: cursor.at,
+        misplaced: 0,
         end: cursor.at,
     }
 }
 
 // A number, behind its first digit. A unit is a token of its own.
-fn numeral(text: &[u8], from: Cursor, first_digit: u32, start: &[u32], more: &[u32]) -> Piece
+fn numeral(
+    text: &[u8],
+    at: usize,
+    from: Cursor,
+    first_digit: u32,
+    start: &[u32],
+    more: &[u32],
+) -> Piece
     requires { ⌜ from .at ≤ length (now text) ⌝ }
-    ensures { λ r. ⌜ NumberAt (startIn (now (start .entry))) (moreIn (now (more .entry))) «first_digit» (now (text .entry)) (from .at) (r .kind) (r .suffix) (r .end) ⌝ }
+    ensures { λ r. ⌜ NumberAt (startIn (now (start .entry))) (moreIn (now (more .entry))) «first_digit» (now (text .entry)) at (from .at) (r .kind) (r .suffix) (r .misplaced) (r .end) ⌝ }
 {
     let n = number(text, from, first_digit);
     let cursor = n.cursor;
+    let misplaced = place_in(at, n.misplaced);
     if has_timing_or_imaginary_suffix(text, cursor) {
         return Piece {
             kind: n.kind,
             suffix: cursor.at,
+            misplaced,
             end: cursor.at,
         };
     }
@@ -78,19 +114,20 @@ fn numeral(text: &[u8], from: Cursor, first_digit: u32, start: &[u32], more: &[u
     Piece {
         kind: n.kind,
         suffix: cursor.at,
+        misplaced,
         end: end.at,
     }
 }
 
 // A quoted text or a number, behind its first character c.
-fn literal(text: &[u8], from: Cursor, c: u32, start: &[u32], more: &[u32]) -> Piece
+fn literal(text: &[u8], at: usize, from: Cursor, c: u32, start: &[u32], more: &[u32]) -> Piece
     requires { ⌜ from .at ≤ length (now text) ⌝ }
-    ensures { λ r. ⌜ LiteralAt (startIn (now (start .entry))) (moreIn (now (more .entry))) c (now (text .entry)) (from .at) (r .kind) (r .suffix) (r .end) ⌝ }
+    ensures { λ r. ⌜ LiteralAt (startIn (now (start .entry))) (moreIn (now (more .entry))) c (now (text .entry)) at (from .at) (r .kind) (r .suffix) (r .misplaced) (r .end) ⌝ }
 {
     if c == 0x22 {
-        return string(text, from, start, more);
+        return string(text, at, from, start, more);
     }
-    numeral(text, from, c, start, more)
+    numeral(text, at, from, c, start, more)
 }
 
 // A letter of ASCII, an underscore, or a character beyond ASCII, where the tables decide: an identifier, one that begins with an
@@ -106,7 +143,7 @@ fn named(
     emoji: &[u32],
 ) -> Piece
     requires { ⌜ (Stands (now text) at c (next .at)) × (Lettered c) ⌝ }
-    ensures { λ r. ⌜ Cuts (lent (now (start .entry)) (now (more .entry)) (now (emoji .entry))) profile (now (text .entry)) at (r .kind) (r .suffix) (r .end) ⌝ }
+    ensures { λ r. ⌜ Cuts (lent (now (start .entry)) (now (more .entry)) (now (emoji .entry))) profile (now (text .entry)) at (r .kind) (r .suffix) (r .misplaced) (r .end) ⌝ }
 {
     if is_id_start_in(start, c) {
         let own = Cursor { at };
@@ -133,7 +170,7 @@ fn advance(
     emoji: &[u32],
 ) -> Piece
     requires { ⌜ Stands (now text) at c (next .at) ⌝ }
-    ensures { λ r. ⌜ Cuts (lent (now (start .entry)) (now (more .entry)) (now (emoji .entry))) profile (now (text .entry)) at (r .kind) (r .suffix) (r .end) ⌝ }
+    ensures { λ r. ⌜ Cuts (lent (now (start .entry)) (now (more .entry)) (now (emoji .entry))) profile (now (text .entry)) at (r .kind) (r .suffix) (r .misplaced) (r .end) ⌝ }
 {
     match c {
         0x2F => plain_part(at, slash(text, next)),
@@ -152,10 +189,10 @@ fn advance(
             more,
             emoji,
         ),
-        0x22 | 0x30..=0x39 => literal(text, next, c, start, more),
+        0x22 | 0x30..=0x39 => literal(text, at, next, c, start, more),
         0x23 => plain_part(at, pound(text, next)),
         0x40 => plain_part(at, annotation(text, next, start)),
-        0x24 => plain_part(at, hardware_ident(text, next, more, emoji)),
+        0x24 => wire(at, hardware_ident(text, next, more, emoji)),
         0x3B => plain(at, kinds::SEMI, next),
         0x2C => plain(at, kinds::COMMA, next),
         0x2E => plain(at, kinds::DOT, next),
@@ -192,12 +229,13 @@ pub fn advance_token(
     more: &[u32],
     emoji: &[u32],
 ) -> Piece
-    ensures { λ r. ⌜ Advanced (lent (now (start .entry)) (now (more .entry)) (now (emoji .entry))) profile (now (text .entry)) at (r .kind) (r .suffix) (r .end) ⌝ }
+    ensures { λ r. ⌜ Advanced (lent (now (start .entry)) (now (more .entry)) (now (emoji .entry))) profile (now (text .entry)) at (r .kind) (r .suffix) (r .misplaced) (r .end) ⌝ }
 {
     if text.len() <= at {
         return Piece {
             kind: kinds::EOF,
             suffix: at,
+            misplaced: 0,
             end: at,
         };
     }

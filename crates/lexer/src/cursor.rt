@@ -1,16 +1,19 @@
 // The cursor, and the loops that eat characters while a test holds, one for each test.
 ghost use mathlib.Core.Path.{_≡_};
-ghost use mathlib.Core.Bool.{false};
+ghost use mathlib.Core.Bool.{true, false, cond};
 ghost use mathlib.Core.List.{tail};
-ghost use Prim.Native.Nat.{_≤_};
+ghost use Prim.Native.Nat.{_≤_, _<_};
 ghost use lib.ListN.{length, getD};
 ghost use Rattle.unicode.specs.Ranges.{_to_, inRange};
-ghost use Rattle.unicode.specs.Steps.{Place, Ate};
+ghost use Rattle.unicode.specs.Steps.{Place};
 ghost use Rattle.unicode.specs.Text.{left, skip};
 ghost use Rattle.letters.specs.Chars.{isWhitespace};
-ghost use Rattle.lexer.specs.Cut.{peek, notLf, isDigit, isHexDigit, orUnderscore, met, wideEmoji, goesOn};
+ghost use Rattle.cutters.specs.Digits.{peek, isDigit, isHexDigit, digitBy};
+ghost use Rattle.cutters.specs.Underscores.{before, misplaced};
+ghost use Rattle.cutters.specs.Steps.{firstOf};
+ghost use Rattle.lexer.specs.Cut.{notLf, wideEmoji, goesOn};
 ghost use Rattle.lexer.specs.Unicode.{startIn, moreIn, emojiIn};
-ghost use Rattle.lexer.specs.Steps.{Ran};
+ghost use Rattle.lexer.specs.Steps.{Ran, Run};
 use letters::is_whitespace;
 use ucd::is_emoji_in;
 use ucd::is_xid_continue_in;
@@ -22,9 +25,11 @@ pub struct Cursor {
     pub at: usize,
 }
 
-// Whether a digit was eaten, and the cursor behind the digits.
+// What a digit reader says of its run: whether there was a digit, the place of its first misplaced underscore, 0 for none, and the
+// cursor behind it.
 pub struct Digits {
     pub any: bool,
+    pub misplaced: usize,
     pub cursor: Cursor,
 }
 
@@ -218,83 +223,105 @@ impl Cursor {
 
     pub fn eat_decimal_digits(self, text: &[u8]) -> Digits
         requires { ⌜ self .at ≤ length (now text) ⌝ }
-        ensures { λ r. ⌜ Ate (orUnderscore isDigit) (met isDigit) (now (text .entry)) (self .at) false (r .cursor .at) (r .any) ⌝ }
+        ensures { λ r. ⌜ Run isDigit false (now (text .entry)) (self .at) (r .any) (r .misplaced) (r .cursor .at) ⌝ }
     {
         let mut at = self.at;
         let mut any = false;
+        let mut misplaced: usize = 0;
         while at < text.len() {
             let b = byte(text, at);
-            if !is_digit_or_underscore(b) {
-                return Digits {
-                    any,
-                    cursor: Cursor { at },
-                };
+            if b == 0x5F {
+                misplaced = first_misplaced(text, at, misplaced, false);
+            } else {
+                if !is_digit(b) {
+                    return Digits {
+                        any,
+                        misplaced,
+                        cursor: Cursor { at },
+                    };
+                }
+                any = true;
             }
-            any = met_digit(any, b);
             at = at + 1;
         }
         Digits {
             any,
+            misplaced,
             cursor: Cursor { at },
         }
     }
 
     pub fn eat_hexadecimal_digits(self, text: &[u8]) -> Digits
         requires { ⌜ self .at ≤ length (now text) ⌝ }
-        ensures { λ r. ⌜ Ate (orUnderscore isHexDigit) (met isHexDigit) (now (text .entry)) (self .at) false (r .cursor .at) (r .any) ⌝ }
+        ensures { λ r. ⌜ Run isHexDigit true (now (text .entry)) (self .at) (r .any) (r .misplaced) (r .cursor .at) ⌝ }
     {
         let mut at = self.at;
         let mut any = false;
+        let mut misplaced: usize = 0;
         while at < text.len() {
             let b = byte(text, at);
-            if !is_hex_or_underscore(b) {
-                return Digits {
-                    any,
-                    cursor: Cursor { at },
-                };
+            if b == 0x5F {
+                misplaced = first_misplaced(text, at, misplaced, true);
+            } else {
+                if !is_hex_digit(b) {
+                    return Digits {
+                        any,
+                        misplaced,
+                        cursor: Cursor { at },
+                    };
+                }
+                any = true;
             }
-            any = met_hex(any, b);
             at = at + 1;
         }
         Digits {
             any,
+            misplaced,
             cursor: Cursor { at },
         }
     }
 }
 
-fn is_digit_or_underscore(c: u32) -> bool
-    ensures { λ r. ⌜ r ≡ orUnderscore isDigit c ⌝ }
+// The first of two places, of which 0 is none.
+pub fn first_of(found: usize, next: usize) -> usize
+    ensures { λ r. ⌜ r ≡ firstOf found next ⌝ }
 {
-    if c == 0x5F {
-        return true;
+    if found == 0 {
+        return next;
+    }
+    found
+}
+
+fn byte_before(text: &[u8], at: usize) -> u32
+    ensures { λ r. ⌜ r ≡ before (now (text .entry)) at ⌝ }
+{
+    if at == 0 {
+        return 0;
+    }
+    byte(text, at - 1)
+}
+
+fn is_digit_by(hex: bool, c: u32) -> bool
+    ensures { λ r. ⌜ r ≡ digitBy hex c ⌝ }
+{
+    if hex {
+        return is_hex_digit(c);
     }
     is_digit(c)
 }
 
-fn is_hex_or_underscore(c: u32) -> bool
-    ensures { λ r. ⌜ r ≡ orUnderscore isHexDigit c ⌝ }
+// The first misplaced underscore of a run, up to the underscore at a place.
+fn first_misplaced(text: &[u8], at: usize, found: usize, hex: bool) -> usize
+    requires { ⌜ (at < length (now text)) × (getD (now text) at 0 ≡ 0x5F) ⌝ }
+    ensures { λ r. ⌜ r ≡ firstOf found (cond (misplaced (digitBy hex) (now (text .entry)) at) at 0) ⌝ }
 {
-    if c == 0x5F {
-        return true;
+    if found != 0 {
+        return found;
     }
-    is_hex_digit(c)
-}
-
-fn met_digit(any: bool, c: u32) -> bool
-    ensures { λ r. ⌜ r ≡ met isDigit any c ⌝ }
-{
-    if any {
-        return true;
+    if is_digit_by(hex, byte_before(text, at)) {
+        if is_digit_by(hex, byte(text, at + 1)) {
+            return 0;
+        }
     }
-    is_digit(c)
-}
-
-fn met_hex(any: bool, c: u32) -> bool
-    ensures { λ r. ⌜ r ≡ met isHexDigit any c ⌝ }
-{
-    if any {
-        return true;
-    }
-    is_hex_digit(c)
+    at
 }

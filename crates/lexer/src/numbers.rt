@@ -1,21 +1,29 @@
 // Numbers and their suffixes.
 ghost use mathlib.Core.Path.{_≡_};
-ghost use mathlib.Core.Bool.{_||_};
+ghost use mathlib.Core.Bool.{false, _||_};
 ghost use mathlib.Core.List.{tail};
 ghost use Prim.Native.Nat.{_≤_};
 ghost use lib.Dec.{eqb};
 ghost use lib.ListN.{length};
 ghost use Rattle.unicode.specs.Steps.{Place};
 ghost use Rattle.unicode.specs.Text.{left};
-ghost use Rattle.lexer.specs.Cut.{peek, isE, exponent, exponentOf, point, fraction, based, number, isUnit, identifier};
+ghost use Rattle.cutters.specs.Digits.{peek};
+ghost use Rattle.lexer.specs.Cut.{isE, exponent, exponentOf, point, fraction, based, number, isUnit, identifier};
 ghost use Rattle.lexer.specs.Unicode.{startIn, moreIn};
-ghost use Rattle.lexer.specs.Steps.{Parted};
-use crate::comments::Part;
+ghost use Rattle.lexer.specs.Steps.{Read, Numbered};
 use crate::cursor::Cursor;
 use crate::cursor::Digits;
+use crate::cursor::first_of;
 use crate::cursor::is_digit;
 use crate::cursor::is_id_start_in;
 use crate::kinds;
+
+// What holds digits: its kind, the place of its first misplaced underscore, 0 for none, and the cursor behind it.
+pub struct Figures {
+    pub kind: u32,
+    pub misplaced: usize,
+    pub cursor: Cursor,
+}
 
 fn is_sign(c: u32) -> bool
     ensures { λ r. ⌜ r ≡ (eqb c 0x2D || eqb c 0x2B) ⌝ }
@@ -37,7 +45,7 @@ fn is_e(c: u32) -> bool
 
 fn eat_float_exponent(text: &[u8], from: Cursor) -> Digits
     requires { ⌜ from .at ≤ length (now text) ⌝ }
-    ensures { λ r. ⌜ Parted exponent (now (text .entry)) (from .at) (r .any) (r .cursor .at) ⌝ }
+    ensures { λ r. ⌜ Read exponent false (now (text .entry)) (from .at) 0 (r .any) (r .misplaced) (r .cursor .at) ⌝ }
 {
     if is_sign(from.first(text)) {
         return from.bump(text).eat_decimal_digits(text);
@@ -45,84 +53,92 @@ fn eat_float_exponent(text: &[u8], from: Cursor) -> Digits
     from.eat_decimal_digits(text)
 }
 
-// A Float, behind its e.
-fn exponent_of(text: &[u8], from: Cursor, base: u32) -> Part
+// A Float, behind its e. The place `found` is that of the first misplaced underscore before, as it is below.
+fn exponent_of(text: &[u8], from: Cursor, base: u32, found: usize) -> Figures
     requires { ⌜ (from .at ≤ length (now text)) × (base ≤ 3) ⌝ }
-    ensures { λ r. ⌜ Parted (exponentOf base) (now (text .entry)) (from .at) (r .kind) (r .cursor .at) ⌝ }
+    ensures { λ r. ⌜ Read (exponentOf base) false (now (text .entry)) (from .at) found (r .kind) (r .misplaced) (r .cursor .at) ⌝ }
 {
     let e = eat_float_exponent(text, from);
     let cursor = e.cursor;
+    let misplaced = first_of(found, e.misplaced);
     if e.any {
-        return Part {
+        return Figures {
             kind: kinds::FLOAT + 2 * base,
+            misplaced,
             cursor,
         };
     }
-    Part {
+    Figures {
         kind: kinds::FLOAT_EMPTY_EXPONENT + 2 * base,
+        misplaced,
         cursor,
     }
 }
 
 // A Float, behind its point.
-fn point(text: &[u8], from: Cursor, base: u32) -> Part
+fn point(text: &[u8], from: Cursor, base: u32, found: usize) -> Figures
     requires { ⌜ (from .at ≤ length (now text)) × (base ≤ 3) ⌝ }
-    ensures { λ r. ⌜ Parted (point base) (now (text .entry)) (from .at) (r .kind) (r .cursor .at) ⌝ }
+    ensures { λ r. ⌜ Read (point base) false (now (text .entry)) (from .at) found (r .kind) (r .misplaced) (r .cursor .at) ⌝ }
 {
     if !is_digit(from.first(text)) {
-        return Part {
+        return Figures {
             kind: kinds::FLOAT + 2 * base,
+            misplaced: found,
             cursor: from,
         };
     }
     let d = from.eat_decimal_digits(text);
     let cursor = d.cursor;
+    let misplaced = first_of(found, d.misplaced);
     if is_e(cursor.first(text)) {
-        return exponent_of(text, cursor.bump(text), base);
+        return exponent_of(text, cursor.bump(text), base, misplaced);
     }
-    Part {
+    Figures {
         kind: kinds::FLOAT + 2 * base,
+        misplaced,
         cursor,
     }
 }
 
 // Behind the digits of a base: a point, an exponent, or nothing.
-fn fraction(text: &[u8], from: Cursor, base: u32) -> Part
+fn fraction(text: &[u8], from: Cursor, base: u32, found: usize) -> Figures
     requires { ⌜ (from .at ≤ length (now text)) × (base ≤ 3) ⌝ }
-    ensures { λ r. ⌜ Parted (fraction base) (now (text .entry)) (from .at) (r .kind) (r .cursor .at) ⌝ }
+    ensures { λ r. ⌜ Read (fraction base) false (now (text .entry)) (from .at) found (r .kind) (r .misplaced) (r .cursor .at) ⌝ }
 {
     let x = from.first(text);
     if x == 0x2E {
-        return point(text, from.bump(text), base);
+        return point(text, from.bump(text), base, found);
     }
     if is_e(x) {
-        return exponent_of(text, from.bump(text), base);
+        return exponent_of(text, from.bump(text), base, found);
     }
-    Part {
+    Figures {
         kind: kinds::INT + 2 * base,
+        misplaced: found,
         cursor: from,
     }
 }
 
 // Behind 0b, 0o or 0x and what digits there are.
-fn based(text: &[u8], d: Digits, base: u32) -> Part
+fn based(text: &[u8], d: Digits, base: u32) -> Figures
     requires { ⌜ (d .cursor .at ≤ length (now text)) × (base ≤ 3) ⌝ }
-    ensures { λ r. ⌜ Parted (based base (d .any)) (now (text .entry)) (d .cursor .at) (r .kind) (r .cursor .at) ⌝ }
+    ensures { λ r. ⌜ Read (based base (d .any)) false (now (text .entry)) (d .cursor .at) (d .misplaced) (r .kind) (r .misplaced) (r .cursor .at) ⌝ }
 {
     let cursor = d.cursor;
     if d.any {
-        return fraction(text, cursor, base);
+        return fraction(text, cursor, base, d.misplaced);
     }
-    Part {
+    Figures {
         kind: kinds::INT_EMPTY + 2 * base,
+        misplaced: d.misplaced,
         cursor,
     }
 }
 
 // Behind a first digit.
-pub fn number(text: &[u8], from: Cursor, first_digit: u32) -> Part
+pub fn number(text: &[u8], from: Cursor, first_digit: u32) -> Figures
     requires { ⌜ from .at ≤ length (now text) ⌝ }
-    ensures { λ r. ⌜ Parted (number «first_digit») (now (text .entry)) (from .at) (r .kind) (r .cursor .at) ⌝ }
+    ensures { λ r. ⌜ Numbered «first_digit» (now (text .entry)) (from .at) (r .kind) (r .misplaced) (r .cursor .at) ⌝ }
 {
     if first_digit == 0x30 {
         let x = from.first(text);
@@ -145,7 +161,7 @@ pub fn number(text: &[u8], from: Cursor, first_digit: u32) -> Part
         }
     }
     let d = from.eat_decimal_digits(text);
-    fraction(text, d.cursor, kinds::DECIMAL)
+    fraction(text, d.cursor, kinds::DECIMAL, d.misplaced)
 }
 
 fn is_unit(x: u32, y: u32) -> bool

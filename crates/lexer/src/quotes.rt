@@ -5,7 +5,7 @@ ghost use Prim.Native.Nat.{_+_, _≤_, _<_, min};
 ghost use lib.Dec.{eqb};
 ghost use lib.ListN.{length, getD};
 ghost use Rattle.lexer.specs.Cut.{escapes};
-ghost use Rattle.lexer.specs.Kinds.{str, bitStr};
+ghost use Rattle.cutters.specs.Kinds.{str, bitStr};
 ghost use Rattle.lexer.specs.Steps.{Quoted, Added, bitsBy};
 use crate::cursor::Cursor;
 use crate::cursor::byte;

@@ -6,13 +6,14 @@ ghost use lib.ListN.{length};
 ghost use Rattle.unicode.specs.Text.{left};
 ghost use Rattle.lexer.specs.Cut.{name, word, pound, annotated, hardware};
 ghost use Rattle.lexer.specs.Unicode.{startIn, moreIn, emojiIn};
-ghost use Rattle.lexer.specs.Steps.{Parted, Agreed};
+ghost use Rattle.lexer.specs.Steps.{Parted, Agreed, Wired};
 use crate::comments::Part;
 use crate::cursor::Cursor;
 use crate::cursor::byte;
 use crate::cursor::is_id_start_in;
 use crate::cursor::is_wide_emoji;
 use crate::kinds;
+use crate::numbers::Figures;
 use unicode::utf8::decode;
 
 // The word that makes a Pragma of a line.
@@ -154,28 +155,31 @@ pub fn annotation(text: &[u8], from: Cursor, start: &[u32]) -> Part
 }
 
 // Behind a dollar sign.
-pub fn hardware_ident(text: &[u8], from: Cursor, more: &[u32], emoji: &[u32]) -> Part
+pub fn hardware_ident(text: &[u8], from: Cursor, more: &[u32], emoji: &[u32]) -> Figures
     requires { ⌜ from .at ≤ length (now text) ⌝ }
-    ensures { λ r. ⌜ Parted (hardware (moreIn (now (more .entry))) (emojiIn (now (emoji .entry)))) (now (text .entry)) (from .at) (r .kind) (r .cursor .at) ⌝ }
+    ensures { λ r. ⌜ (Parted (hardware (moreIn (now (more .entry))) (emojiIn (now (emoji .entry)))) (now (text .entry)) (from .at) (r .kind) (r .cursor .at)) × (Wired (now (text .entry)) (from .at) (r .kind) (r .cursor .at) (r .misplaced)) ⌝ }
 {
     if is_wide_emoji(emoji, from.first(text)) {
         let mid = from.eat_id_continue(text, more);
         let cursor = mid.eat_fake(text, more, emoji);
-        return Part {
+        return Figures {
             kind: kinds::INVALID_IDENT,
+            misplaced: 0,
             cursor,
         };
     }
     let d = from.eat_decimal_digits(text);
     let cursor = d.cursor;
     if d.any {
-        return Part {
+        return Figures {
             kind: kinds::HARDWARE_IDENT,
+            misplaced: d.misplaced,
             cursor,
         };
     }
-    Part {
+    Figures {
         kind: kinds::DOLLAR,
+        misplaced: d.misplaced,
         cursor,
     }
 }

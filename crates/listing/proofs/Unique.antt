@@ -14,5 +14,5 @@ listed-unique p q =
 pub cut-run-unique : {u : Letters} {profile from : ℕ} {s list l k : List ℕ} {at n at′ n′ : ℕ} → CutRun u profile s from list at n l → CutRun u profile s from list at′ n′ k → (at ≡ at′) × (n ≡ n′) × (l ≡ k)
 cut-run-unique p q = (p .reached ∙ sym (q .reached), p .many ∙ sym (q .many), p .words ∙ sym (q .words))
 
-pub token-at-unique : {u : Letters} {profile at : ℕ} {s : List ℕ} {k m e k′ m′ e′ : ℕ} → TokenAt u profile s at k m e → TokenAt u profile s at k′ m′ e′ → (k ≡ k′) × (m ≡ m′) × (e ≡ e′)
-token-at-unique p q = (p .kind-is ∙ sym (q .kind-is), p .suffix-is ∙ sym (q .suffix-is), p .end-is ∙ sym (q .end-is))
+pub token-at-unique : {u : Letters} {profile at : ℕ} {s : List ℕ} {k m f e k′ m′ f′ e′ : ℕ} → TokenAt u profile s at k m f e → TokenAt u profile s at k′ m′ f′ e′ → (k ≡ k′) × (m ≡ m′) × (f ≡ f′) × (e ≡ e′)
+token-at-unique p q = (p .kind-is ∙ sym (q .kind-is), p .suffix-is ∙ sym (q .suffix-is), p .found-is ∙ sym (q .found-is), p .end-is ∙ sym (q .end-is))

@@ -20,7 +20,9 @@ use Rattle.text.specs.Steps.{Entered}
 use Rattle.text.proofs.Room as room
 use Rattle.text.proofs.Checks.{cut-passed}
 use Rattle.text.proofs.Marks.{marked-refused}
-use Rattle.cutters.specs.Records.{Token, total, recordWords, wordsOf, flatFrom}
+use Rattle.cutters.specs.Records.{Token, total, recordWords, bytesOf, misplacedAt, wordsOf, flatFrom}
+use Rattle.cutters.specs.Underscores.{misplacedIn, misplacedOf}
+use Rattle.cutters.proofs.Underscores.{found-least}
 use Rattle.cutters.proofs.Records.{length-words, length-flat}
 use Rattle.lexer.specs.Cut.{Letters}
 use Rattle.lexer.specs.Unicode.{unicode, lent}
@@ -69,25 +71,27 @@ module _ {u : Letters} {profile : ℕ} {s list₀ list : List ℕ} {from full at
   pub fill-room : k < full → k + recordWords ≤ length list
   fill-room h = omega (arith, w .full-is, w .stored, w .room-is, w .long)
 
-  module _ {kind suffixAt end k′ : ℕ} {list′ : List ℕ} (l : k < full) (h : at < length s) (a : Advanced u profile s at kind suffixAt end) where
-    pub fill-on : list′ ≡ sets list k (wordsOf s at (record { kind = kind; len = end - at; suffix = suffixAt - at })) → k′ ≡ k + recordWords → Filling u profile s from list₀ full end k′ list′
-    unfolding flatFrom
-    fill-on e f =
+  module _ {kind suffixAt found end k′ : ℕ} {list′ : List ℕ} (l : k < full) (h : at < length s) (a : Advanced u profile s at kind suffixAt found end) where
+    pub fill-on : list′ ≡ sets list k (kind ∷ (end - at) ∷ (suffixAt - at) ∷ at ∷ found ∷ []) → k′ ≡ k + recordWords → Filling u profile s from list₀ full end k′ list′
+    unfolding flatFrom front
+    fill-on d f =
         let room = w .room in
         let n = w .n in
         let ts = tokensBy u profile (drop end s) in
         let t : Token = record { kind = kind; len = end - at; suffix = suffixAt - at } in
-        let view : tokensBy u profile (drop at s) ≡ t ∷ ts = advanced-view u profile s at kind suffixAt end a h in
-        let some : at < end = omega (arith, end-some u profile s at kind suffixAt end a) in
+        let view : tokensBy u profile (drop at s) ≡ t ∷ ts = advanced-view u profile s at kind suffixAt found end a h in
+        let some : at < end = omega (arith, end-some u profile s at kind suffixAt found end a) in
         let less : room - n ≡ suc (room - suc n) = omega (arith, l, w .full-is, w .stored) in
-        let front : runFrom u profile s at (room - n) ≡ t ∷ runFrom u profile s end (room - suc n) = rw (less, view) in
+        let ahead : runFrom u profile s at (room - n) ≡ t ∷ runFrom u profile s end (room - suc n) = rw (less, view) in
         let W = wordsOf s at t in
+        let own : found ≡ misplacedAt s at t = a .found-is ∙ ap (λ (l : List Token). misplacedAt s at (front l)) view in
+        let e : list′ ≡ sets list k W = d ∙ ap (λ (x : ℕ). sets list k (kind ∷ (end - at) ∷ (suffixAt - at) ∷ at ∷ x ∷ [])) own in
         let m : k′ ≡ k + length W = omega (arith, f, length-words s at t) in
         let there : at + t .len ≡ end = omega (arith, some) in
         let rest = runFrom u profile s end (room - suc n) in
         let far : drop (room - n) (tokensBy u profile (drop at s)) ≡ drop (room - suc n) ts = rw (less, view) in
         let l : length list′ ≡ length list = ap length e ∙ length-sets list k W in
-        let f′ : flatFrom s at (runFrom u profile s at (room - n)) ≡ W ++ flatFrom s end rest = ap (flatFrom s at) front ∙ ap (λ (i : ℕ). W ++ flatFrom s i rest) there in
+        let f′ : flatFrom s at (runFrom u profile s at (room - n)) ≡ W ++ flatFrom s end rest = ap (flatFrom s at) ahead ∙ ap (λ (i : ℕ). W ++ flatFrom s i rest) there in
         record {
           room = room;
           n = suc n;
@@ -96,8 +100,8 @@ module _ {u : Letters} {profile : ℕ} {s list₀ list : List ℕ} {from full at
           stored = omega (arith, f, w .stored);
           low = omega (arith, less);
           long = l ∙ w .long;
-          count = omega (arith, w .count, ap length front);
-          place = omega (arith, w .place, ap total front, some);
+          count = omega (arith, w .count, ap length ahead);
+          place = omega (arith, w .place, ap total ahead, some);
           rest = sym far ∙ w .rest;
           same = rw (m, e) (sets-append W (flatFrom s end rest) list k ∙ ap (sets list k) (sym f′) ∙ w .same);
         }
@@ -208,12 +212,12 @@ listed-done {s} {profile = profile} c z r = listed-by (room.passed c z (rw (know
 -- ---- a run of one token
 -- a record of noughts, and the words of at most one token before it
 abbrev none : List ℕ
-none = 0 ∷ 0 ∷ 0 ∷ 0 ∷ []
+none = 0 ∷ 0 ∷ 0 ∷ 0 ∷ 0 ∷ []
 
-one-words : (s : List ℕ) (at : ℕ) (l : List Token) → length l ≤ 1 → {list : List ℕ} → list ≡ flatFrom s at l ++ drop (length (flatFrom s at l)) none → (getD list 0 0 ≡ front l .kind) × (getD list 2 0 ≡ front l .suffix) × (total l ≡ front l .len)
-unfolding flatFrom front
-one-words s at [] h e = (ap (λ (l : List ℕ). getD l 0 0) e, ap (λ (l : List ℕ). getD l 2 0) e, refl)
-one-words s at (t ∷ []) h e = (ap (λ (l : List ℕ). getD l 0 0) e, ap (λ (l : List ℕ). getD l 2 0) e, omega arith)
+one-words : (s : List ℕ) (at : ℕ) (l : List Token) → length l ≤ 1 → {list : List ℕ} → list ≡ flatFrom s at l ++ drop (length (flatFrom s at l)) none → (getD list 0 0 ≡ front l .kind) × (getD list 2 0 ≡ front l .suffix) × (getD list 4 0 ≡ misplacedAt s at (front l)) × (total l ≡ front l .len)
+unfolding flatFrom front misplacedOf misplacedIn
+one-words s at [] h e = (ap (λ (l : List ℕ). getD l 0 0) e, ap (λ (l : List ℕ). getD l 2 0) e, ap (λ (l : List ℕ). getD l 4 0) e, refl)
+one-words s at (t ∷ []) h e = (ap (λ (l : List ℕ). getD l 0 0) e, ap (λ (l : List ℕ). getD l 2 0) e, ap (λ (l : List ℕ). getD l 4 0) e, omega arith)
 one-words s at (t ∷ t′ ∷ ts) h e = absurd (omega arith)
 
 module _ (u : Letters) (profile : ℕ) (s : List ℕ) (at : ℕ) where
@@ -243,18 +247,29 @@ module _ {u : Letters} {profile : ℕ} {s list′ : List ℕ} {at end count : �
   pub one-suffix : at + getD list′ 2 0 ≤ max at (length s)
   one-suffix = omega (arith, one-within u profile s at .0, one-words s at (one u profile s at) (one-few u profile s at) (r .words) .1)
 
-  pub one-token : {kind suffixAt end′ : ℕ} → kind ≡ getD list′ 0 0 → suffixAt ≡ at + getD list′ 2 0 → end′ ≡ end → TokenAt u profile s at kind suffixAt end′
-  one-token k m e =
+  pub one-misplaced : getD list′ 4 0 ≤ length s
+  one-misplaced =
+      let t = front (one u profile s at) in
       let w = one-words s at (one u profile s at) (one-few u profile s at) (r .words) in
-      record { kind-is = k ∙ w .0; suffix-is = m ∙ ap (λ (n : ℕ). at + n) (w .1); end-is = e ∙ r .reached ∙ ap (λ (n : ℕ). at + n) (w .2) }
+      omega (arith, w .2, found-least (t .kind) (t .suffix) (bytesOf s at t), length-take (t .len) (drop at s), length-drop at s)
+
+  pub one-token : {kind suffixAt found end′ : ℕ} → kind ≡ getD list′ 0 0 → suffixAt ≡ at + getD list′ 2 0 → found ≡ getD list′ 4 0 → end′ ≡ end → TokenAt u profile s at kind suffixAt found end′
+  one-token k m f e =
+      let w = one-words s at (one u profile s at) (one-few u profile s at) (r .words) in
+      record { kind-is = k ∙ w .0; suffix-is = m ∙ ap (λ (n : ℕ). at + n) (w .1); found-is = f ∙ w .2; end-is = e ∙ r .reached ∙ ap (λ (n : ℕ). at + n) (w .3) }
 
 -- a place of the token is at or behind its start, and within the text
-module _ {u : Letters} {profile : ℕ} {s : List ℕ} {at kind suffixAt end : ℕ} (a : TokenAt u profile s at kind suffixAt end) where
+module _ {u : Letters} {profile : ℕ} {s : List ℕ} {at kind suffixAt found end : ℕ} (a : TokenAt u profile s at kind suffixAt found end) where
   pub one-start : (at ≤ suffixAt) × (suffixAt ≤ max at (length s))
   one-start = (omega (arith, a .suffix-is), omega (arith, a .suffix-is, one-within u profile s at .0))
 
   pub one-end : (at ≤ end) × (end ≤ max at (length s))
   one-end = (omega (arith, a .end-is), omega (arith, a .end-is, one-within u profile s at .1))
+
+  pub one-found : found ≤ length s
+  one-found =
+      let t = front (one u profile s at) in
+      omega (arith, a .found-is, found-least (t .kind) (t .suffix) (bytesOf s at t), length-take (t .len) (drop at s), length-drop at s)
 
 -- ---- A TEXT WITH A DIRECTION MARK is refused with 7, in whatever room, and the list is left as it was
 pub listed-marked : {s list list′ : List ℕ} {profile number also : ℕ} → CutMarked s profile → Listed s profile list number also list′ → (number ≡ directionMark) × (also ≡ unmarkedUpTo s) × (list′ ≡ list)

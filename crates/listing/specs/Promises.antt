@@ -8,7 +8,7 @@ use lib.Dec.{eqb, ltb}
 use lib.ListN.{length, take, drop}
 use Rattle.lists.specs.Over.{over}
 use Rattle.text.specs.Answer.{Answered, done, longest, checkCut, checkRoom, _andThen_}
-use Rattle.cutters.specs.Records.{Token, total, recordWords, flatFrom}
+use Rattle.cutters.specs.Records.{Token, total, recordWords, misplacedAt, flatFrom}
 use Rattle.lexer.specs.Cut.{Letters}
 use Rattle.lexer.specs.Promises.{tokensBy, tokensOf, front}
 
@@ -39,8 +39,10 @@ pub record CutRun (u : Letters) (profile : ℕ) (s : List ℕ) (from : ℕ) (lis
 abbrev pub tokenAt : Letters → ℕ → List ℕ → ℕ → Token
 tokenAt u profile s at = front (run u profile s at 1)
 
--- what `token_at` answers: its kind, where its suffix starts (of no literal, where it starts itself), and where it ends
-pub record TokenAt (u : Letters) (profile : ℕ) (s : List ℕ) (at kind suffixAt end : ℕ) : Type 0 where
+-- what `token_at` answers: its kind, where its suffix starts (of no literal, where it starts itself), how far into it its first misplaced underscore stands,
+-- and where it ends
+pub record TokenAt (u : Letters) (profile : ℕ) (s : List ℕ) (at kind suffixAt found end : ℕ) : Type 0 where
   pub kind-is : kind ≡ tokenAt u profile s at .kind
   pub suffix-is : suffixAt ≡ at + tokenAt u profile s at .suffix
+  pub found-is : found ≡ misplacedAt s at (tokenAt u profile s at)
   pub end-is : end ≡ at + tokenAt u profile s at .len

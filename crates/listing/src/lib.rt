@@ -27,14 +27,15 @@ pub struct Run {
 }
 
 // The words of a record, from place k on.
-fn put(list: &mut [u32], k: usize, kind: u32, len: u32, suffix: u32, start: u32)
+fn put(list: &mut [u32], k: usize, kind: u32, len: u32, suffix: u32, start: u32, misplaced: u32)
     requires { ⌜ k + recordWords ≤ length (now list) ⌝ }
-    ensures { λ r. ⌜ now (list .exit) ≡ sets (now (list .entry)) k (kind ∷ len ∷ suffix ∷ start ∷ []) ⌝ }
+    ensures { λ r. ⌜ now (list .exit) ≡ sets (now (list .entry)) k (kind ∷ len ∷ suffix ∷ start ∷ misplaced ∷ []) ⌝ }
 {
     list[k] = kind;
     list[k + 1] = len;
     list[k + 2] = suffix;
     list[k + 3] = start;
+    list[k + 4] = misplaced;
 }
 
 // Fills the list with tokens from a place on, until it is full or the text ends. It is the one loop around the cutter, which is so
@@ -61,7 +62,8 @@ fn fill(
         let t = advance_token(text, at, profile, start, more, emoji);
         let len = (t.end - at) as u32;
         let suffix = (t.suffix - at) as u32;
-        put(list, k, t.kind, len, suffix, at as u32);
+        let misplaced = t.misplaced as u32;
+        put(list, k, t.kind, len, suffix, at as u32, misplaced);
         k = k + RECORD;
         at = t.end;
     }
@@ -103,13 +105,14 @@ pub fn token_at(
     more: &[u32],
     emoji: &[u32],
 ) -> Piece
-    ensures { λ r. ⌜ TokenAt (lent (now (start .entry)) (now (more .entry)) (now (emoji .entry))) profile (now (text .entry)) at (r .kind) (r .suffix) (r .end) ⌝ }
+    ensures { λ r. ⌜ TokenAt (lent (now (start .entry)) (now (more .entry)) (now (emoji .entry))) profile (now (text .entry)) at (r .kind) (r .suffix) (r .misplaced) (r .end) ⌝ }
 {
     let mut words = [0u32; RECORD];
     let r = cut_run(text, at, profile, &mut words, start, more, emoji);
     Piece {
         kind: words[0],
         suffix: at + words[2] as usize,
+        misplaced: words[4] as usize,
         end: r.at,
     }
 }
@@ -174,7 +177,8 @@ fn lend(text: &[u8], profile: u32, list: &mut [u32]) -> Answer
     )
 }
 
-// The tokens of a text, `RECORD` words for each: kind, length in bytes, suffix start, and where it starts in the text, in bytes.
+// The tokens of a text, `RECORD` words for each: kind, length in bytes, suffix start, where it starts in the text, and where its first
+// misplaced underscore stands in it, 0 for none, all in bytes.
 pub fn tokenize(text: &[u8], profile: u32, list: &mut [u32]) -> Answer
     ensures { λ r. ⌜ Listed (now (text .entry)) profile (now (list .entry)) (r .number) (r .also) (now (list .exit)) ⌝ }
 {

@@ -7,7 +7,7 @@ use lib.Dec.{eqb}
 use borrow.Author.Tests.{eqb-true, eqb-false}
 use Rattle.lists.proofs.Bools.{by-test}
 use Rattle.unicode.specs.Utf8.{width}
-use Rattle.lexer.specs.Kinds.{whitespaceKind}
+use Rattle.cutters.specs.Kinds.{whitespaceKind}
 use Rattle.cutters.specs.Records.{Token}
 use Rattle.lexer.specs.Cut.{Letters, nextToken}
 use Rattle.locality.specs.Phases.{act, first, Usual}

@@ -19,7 +19,7 @@ use Rattle.unicode.proofs.Text.{bytes-append}
 use Rattle.unicode.proofs.Valid.{width-some, well-formed-encoded, encode-append, encode-bytes, read-all}
 use Rattle.unicode.proofs.Ascii.{chars-ascii}
 use Rattle.letters.specs.Chars.{isWhitespace}
-use Rattle.lexer.specs.Kinds.{blockComment, whitespaceKind}
+use Rattle.cutters.specs.Kinds.{blockComment, whitespaceKind}
 use Rattle.cutters.specs.Records.{Token, total}
 use Rattle.lexer.specs.Cut.{nextToken, tokens}
 use Rattle.lexer.specs.Unicode.{unicode}

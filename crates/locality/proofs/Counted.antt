@@ -11,8 +11,9 @@ use Rattle.lists.specs.All.{all}
 use Rattle.lists.proofs.Bools.{by-test, on-cond}
 use Rattle.unicode.specs.Text.{skip}
 use Rattle.letters.specs.Chars.{isWhitespace}
-use Rattle.lexer.specs.Kinds.{marks, markIn, int, float, bitStr, str, whitespaceKind}
-use Rattle.lexer.specs.Cut.{Letters, Piece, Quote, peek, isDigit, isE, block, slash, digits, exponent, exponentOf, point, fraction, based, number, quoted, quoteKind, isBit, withoutLf, twice, pragmaWord, agree, pound, wideEmoji, name, word, annotated, hardware, advance}
+use Rattle.cutters.specs.Kinds.{marks, markIn, int, float, bitStr, str, whitespaceKind}
+use Rattle.cutters.specs.Digits.{peek, isDigit}
+use Rattle.lexer.specs.Cut.{Letters, Piece, Quote, isE, block, slash, digits, exponent, exponentOf, point, fraction, based, number, quoted, quoteKind, isBit, withoutLf, twice, pragmaWord, agree, pound, wideEmoji, name, word, annotated, hardware, advance}
 use Rattle.lexer.proofs.Shapes.{mark-has}
 use Rattle.tokens.specs.Members.{isCounted}
 

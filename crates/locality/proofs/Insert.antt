@@ -16,9 +16,10 @@ use Rattle.unicode.specs.Ranges.{inTable}
 use Rattle.unicode.specs.Text.{skip, keep}
 use Rattle.unicode.proofs.Text.{skip-more, skip-stop}
 use Rattle.letters.specs.Chars.{isWhitespace, whitespace}
-use Rattle.lexer.specs.Kinds.{lineComment, blockComment, unclosedComment, whitespaceKind}
+use Rattle.cutters.specs.Kinds.{lineComment, blockComment, unclosedComment, whitespaceKind}
 use Rattle.cutters.specs.Records.{Token}
-use Rattle.lexer.specs.Cut.{Letters, Piece, peek, notLf, opens, closes, block, slash, isUnit, advance, nextToken}
+use Rattle.cutters.specs.Digits.{peek}
+use Rattle.lexer.specs.Cut.{Letters, Piece, notLf, opens, closes, block, slash, isUnit, advance, nextToken}
 use Rattle.locality.specs.Phases.{Line, ofComment, ofPragma, ofAnnotation, lineKind, act, Usual}
 use Rattle.tokens.specs.Members.{isCounted}
 use Rattle.locality.specs.Newline.{noneCount}

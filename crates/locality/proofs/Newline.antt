@@ -9,8 +9,9 @@ use lib.Dec.{eqb, leb}
 use borrow.Author.Tests.{eqb-true, ne-eqb, lt-leb}
 use Rattle.lists.proofs.Bools.{by-test, on-cond}
 use Rattle.letters.specs.Chars.{isWhitespace}
-use Rattle.lexer.specs.Kinds.{unclosedComment, whitespaceKind, invalidIdent, atSign, int, float}
-use Rattle.lexer.specs.Cut.{Letters, peek, notLf, isDigit, isHexDigit, isE, orUnderscore, met, opens, closes, isUnit, wideEmoji, goesOn}
+use Rattle.cutters.specs.Kinds.{unclosedComment, whitespaceKind, invalidIdent, atSign, int, float}
+use Rattle.cutters.specs.Digits.{peek, isDigit, isHexDigit}
+use Rattle.lexer.specs.Cut.{Letters, notLf, isE, orUnderscore, met, opens, closes, isUnit, wideEmoji, goesOn}
 use Rattle.locality.specs.Machine.{Act, eats, halts}
 use Rattle.locality.specs.Phases as Phases
 use Rattle.locality.specs.Phases.{seenKind, Line, ofComment, ofPragma, ofAnnotation, lineKind, Phase, behindSlash, line, inside, into, closing, closed, space, emojiName, spelling, behindAt, behindDollar, wire, zeroFirst, figures, pointed, decimals, behindE, power, quote, quoteClosed, suffixed, single, Seen, letter, figure, lineActs, wireActs, suffixActs, numberEnds, fractionActs, figureActs, powerActs, nameActs, act, Usual}

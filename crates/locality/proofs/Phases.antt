@@ -17,9 +17,10 @@ use Rattle.unicode.specs.Utf8.{width}
 use Rattle.unicode.specs.Text.{byteLength, skip, keep}
 use Rattle.unicode.proofs.Text.{skip-nil, skip-more, skip-stop}
 use Rattle.letters.specs.Chars.{isWhitespace}
-use Rattle.lexer.specs.Kinds.{blockComment, unclosedComment, whitespaceKind, ident, hardwareIdent, invalidIdent, pragma, atSign, dollar, slashMark, unknown, marks, markIn, int, float, str, bitStr}
+use Rattle.cutters.specs.Kinds.{blockComment, unclosedComment, whitespaceKind, ident, hardwareIdent, invalidIdent, pragma, atSign, dollar, slashMark, unknown, marks, markIn, int, float, str, bitStr}
 use Rattle.cutters.specs.Records.{Token}
-use Rattle.lexer.specs.Cut.{Letters, Piece, peek, notLf, isDigit, isE, orUnderscore, met, opens, closes, block, slash, digits, exponent, exponentOf, point, fraction, based, number, isUnit, escapes, quoted, quoteKind, isBit, withoutLf, twice, pragmaWord, agree, pound, Quote, wideEmoji, goesOn, name, word, annotated, hardware, identifier, numberSuffix, advance, nextToken, tokens}
+use Rattle.cutters.specs.Digits.{peek, isDigit}
+use Rattle.lexer.specs.Cut.{Letters, Piece, notLf, isE, orUnderscore, met, opens, closes, block, slash, digits, exponent, exponentOf, point, fraction, based, number, isUnit, escapes, quoted, quoteKind, isBit, withoutLf, twice, pragmaWord, agree, pound, Quote, wideEmoji, goesOn, name, word, annotated, hardware, identifier, numberSuffix, advance, nextToken, tokens}
 use Rattle.locality.specs.Machine.{Act, eats, halts, run, LooksAtTwo, cutBy}
 use Rattle.locality.specs.Phases as Phases
 use Rattle.locality.specs.Phases.{Seen, bits, broken, other, seeing, seenKind, Line, ofComment, ofPragma, ofAnnotation, lineKind, Phase, behindSlash, line, inside, into, closing, closed, space, emojiName, spelling, behindAt, behindDollar, wire, zeroFirst, figures, pointed, decimals, behindE, power, quote, quoteClosed, suffixed, single, nextIs, letter, figure, suffixActs, numberEnds, fractionActs, act, first, Usual}

@@ -13,8 +13,9 @@ use Rattle.unicode.specs.Utf8.{table, behind, begins, joined, readBy, first, ne
 use Rattle.unicode.specs.Text.{byteLength, skip}
 use Rattle.letters.specs.Chars.{whitespace}
 use Rattle.cutters.specs.Records.{Token}
-use Rattle.lexer.specs.Kinds.{marks, markIn}
-use Rattle.lexer.specs.Cut.{notLf, isDigit, isHexDigit, block, slash, digits, exponent, exponentOf, point, fraction, based, number, isUnit, quoted, withoutLf, twice, quoteKind, agree, pound, name, word, annotated, hardware, identifier, numberSuffix, advance, nextToken, tokens}
+use Rattle.cutters.specs.Kinds.{marks, markIn}
+use Rattle.cutters.specs.Digits.{isDigit, isHexDigit}
+use Rattle.lexer.specs.Cut.{notLf, block, slash, digits, exponent, exponentOf, point, fraction, based, number, isUnit, quoted, withoutLf, twice, quoteKind, agree, pound, name, word, annotated, hardware, identifier, numberSuffix, advance, nextToken, tokens}
 use Rattle.lexer.specs.Unicode.{unicode}
 use Rattle.lexer.specs.Promises.{tokens3}
 use Rattle.locality.specs.Machine.{run, cutBy}

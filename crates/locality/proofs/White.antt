@@ -13,7 +13,7 @@ use Rattle.unicode.specs.Ranges.{inTable}
 use Rattle.unicode.specs.Text.{byteLength, skip}
 use Rattle.unicode.proofs.Text.{skip-nil, skip-more, skip-stop}
 use Rattle.letters.specs.Chars.{isWhitespace, whitespace}
-use Rattle.lexer.specs.Kinds.{whitespaceKind}
+use Rattle.cutters.specs.Kinds.{whitespaceKind}
 use Rattle.cutters.specs.Records.{Token}
 use Rattle.lexer.specs.Cut.{Letters, advance, nextToken}
 use Rattle.tokens.specs.Members.{isCounted}

@@ -8,8 +8,9 @@ use lib.Dec.{eqb, leb}
 use lib.ListN.{length, getD}
 use Rattle.lists.specs.All.{all}
 use Rattle.letters.specs.Chars.{isWhitespace}
-use Rattle.lexer.specs.Kinds.{lineComment, blockComment, unclosedComment, whitespaceKind, ident, hardwareIdent, invalidIdent, pragma, annotation, atSign, dollar, slashMark, unknown, marks, markIn, int, float, str, bitStr}
-use Rattle.lexer.specs.Cut.{Letters, peek, notLf, isDigit, isHexDigit, isE, opens, closes, orUnderscore, met, isUnit, isBit, pragmaWord, wideEmoji, goesOn}
+use Rattle.cutters.specs.Kinds.{lineComment, blockComment, unclosedComment, whitespaceKind, ident, hardwareIdent, invalidIdent, pragma, annotation, atSign, dollar, slashMark, unknown, marks, markIn, int, float, str, bitStr}
+use Rattle.cutters.specs.Digits.{peek, isDigit, isHexDigit}
+use Rattle.lexer.specs.Cut.{Letters, notLf, isE, opens, closes, orUnderscore, met, isUnit, isBit, pragmaWord, wideEmoji, goesOn}
 use Rattle.locality.specs.Machine.{Act, eats, halts}
 
 -- ---- what has been seen of a quoted text

@@ -1,6 +1,6 @@
 // oqlist [PROFILE]: prints the tokens of standard input, under profile 0 or 1, or under the default where no word names one: how
-// many, and then kind, length, suffix start and start of each. Any other word, or a second one, is refused before the input is looked
-// at.
+// many, and then kind, length, suffix start, start and misplaced underscore of each. Any other word, or a second one, is refused
+// before the input is looked at.
 //
 // What keeps it from reading or writing goes to standard error. It has no exit status of its own: the launcher gives 0 for
 // tokens, 1 for a refusal and 2 for all else.

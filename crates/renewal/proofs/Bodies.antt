@@ -13,7 +13,7 @@ use Rattle.lists.specs.Steps.{valuesFrom}
 use Rattle.lists.proofs.Bools.{by-test, both, or-true, on-cond}
 use Rattle.lists.proofs.Values.{values-at}
 use Rattle.unicode.proofs.Rows.{every, each}
-use Rattle.lexer.specs.Kinds.{isPlain, isLiteral}
+use Rattle.cutters.specs.Kinds.{isPlain, isLiteral}
 use Rattle.tokens.specs.Members.{isCounted}
 use Rattle.renewal.specs.Key.{isMark, isText, noBody, bodyLength}
 use Rattle.renewal.specs.Steps.{bodies}

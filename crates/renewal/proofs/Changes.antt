@@ -19,7 +19,7 @@ use Rattle.text.specs.Answer.{done, longest, checkCut}
 use Rattle.text.proofs.Checks.{cut-accepted}
 use Rattle.letters.specs.Chars.{isWhitespace, whitespace}
 use Rattle.cutters.specs.Records.{Token}
-use Rattle.lexer.specs.Kinds.{blockComment, whitespaceKind}
+use Rattle.cutters.specs.Kinds.{blockComment, whitespaceKind}
 use Rattle.lexer.specs.Promises.{tokens3}
 use Rattle.locality.specs.Newline.{noneCount, MadeOf}
 use Rattle.locality.specs.Changes.{lastIs, isLine, isOpen, LfIn, EndsAt, inserted}

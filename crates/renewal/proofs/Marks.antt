@@ -10,8 +10,9 @@ use borrow.Author.Tests.{le-leb, lt-leb, leb-true, ltb-true, eqb-true}
 use Rattle.lists.proofs.Bools.{by-test, both, on-cond}
 use Rattle.unicode.specs.Text.{skip}
 use Rattle.letters.specs.Chars.{isWhitespace}
-use Rattle.lexer.specs.Kinds.{marks, markIn, isLiteral}
-use Rattle.lexer.specs.Cut.{Letters, Piece, peek, isDigit, block, slash, digits, quoted, agree, pragmaWord, pound, wideEmoji, name, word, annotated, hardware, advance}
+use Rattle.cutters.specs.Kinds.{marks, markIn, isLiteral}
+use Rattle.cutters.specs.Digits.{peek, isDigit}
+use Rattle.lexer.specs.Cut.{Letters, Piece, block, slash, digits, quoted, agree, pragmaWord, pound, wideEmoji, name, word, annotated, hardware, advance}
 use Rattle.lexer.proofs.Shapes.{number-part, quote-listed}
 use Rattle.renewal.specs.Key.{isMark}
 use Rattle.renewal.specs.Rules.{byteIn, ownBytes}

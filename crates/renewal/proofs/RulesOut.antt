@@ -17,8 +17,9 @@ use Rattle.unicode.specs.Direction.{unmarked, unmarkedUpTo}
 use Rattle.unicode.specs.Text.{byteLength, skip}
 use Rattle.text.specs.Answer.{done, checkText, checkMarks, checkCut}
 use Rattle.letters.specs.Chars.{whitespace}
-use Rattle.lexer.specs.Kinds.{marks, markIn}
-use Rattle.lexer.specs.Cut.{notLf, isDigit, isHexDigit, block, slash, digits, exponent, exponentOf, point, fraction, based, number, isUnit, quoted, quoteKind, agree, pound, name, word, annotated, hardware, identifier, numberSuffix, advance, nextToken, tokens}
+use Rattle.cutters.specs.Kinds.{marks, markIn}
+use Rattle.cutters.specs.Digits.{isDigit, isHexDigit}
+use Rattle.lexer.specs.Cut.{notLf, block, slash, digits, exponent, exponentOf, point, fraction, based, number, isUnit, quoted, quoteKind, agree, pound, name, word, annotated, hardware, identifier, numberSuffix, advance, nextToken, tokens}
 use Rattle.lexer.specs.Unicode.{unicode}
 use Rattle.lexer.specs.Promises.{tokens3, tokensOf}
 use Rattle.tokens.specs.Members.{isCounted, counted, membersBy, membersOf}

@@ -6,7 +6,7 @@ use Prim.Native.Nat.{ℕ, zero, suc, _+_, _/_, _%_}
 use lib.Dec.{eqb, leb}
 use lib.ListN.{length, take, drop}
 use Rattle.lists.specs.Cut.{cut}
-use Rattle.lexer.specs.Kinds.{unclosedComment, ident, annotation, dollar, unknown, isLiteral}
+use Rattle.cutters.specs.Kinds.{unclosedComment, ident, annotation, dollar, unknown, isLiteral}
 use Rattle.cutters.specs.Records.{Token}
 use Rattle.tokens.specs.Members.{Member, membersBy, membersOf}
 

@@ -7,7 +7,7 @@ use Prim.Native.Nat.{ℕ, _≤_}
 use lib.Dec.{eqb}
 use lib.ListN.{length}
 use Rattle.text.specs.Answer.{longest}
-use Rattle.lexer.specs.Kinds.{atSign, slashMark, marks}
+use Rattle.cutters.specs.Kinds.{atSign, slashMark, marks}
 use Rattle.cutters.specs.Records.{Token}
 use Rattle.cutters.specs.Cutter.{Cutter, cutBytes}
 use Rattle.tokens.specs.Members.{Member, isCounted, memberOf}

@@ -22,10 +22,10 @@ use Rattle.lexer.specs.Promises.{front, tokensBy}
 use Rattle.rows.specs.Steps.{recordAt, placeAfter, recordNo, rowAfter, Filled}
 use Rattle.rows.specs.declared.Token.{Token}
 
-pub length-records : (at : ℕ) (ts : List definitions.Token) → length (records at ts) ≡ length ts
+pub length-records : (s : List ℕ) (at : ℕ) (ts : List definitions.Token) → length (records s at ts) ≡ length ts
 unfolding records
-length-records at [] = refl
-length-records at (t ∷ ts) = ap suc (length-records (at + t .len) ts)
+length-records s at [] = refl
+length-records s at (t ∷ ts) = ap suc (length-records s (at + t .len) ts)
 
 module _ (u : Letters) (profile : ℕ) (s : List ℕ) where
   abbrev from : ℕ → List definitions.Token
@@ -56,7 +56,7 @@ module _ (u : Letters) (profile : ℕ) (s : List ℕ) where
   pub record Filling (row : List Token) (i : ℕ) : Type 0 where
     pub within : placeAfter u profile s i ≤ length s
     pub count : i + length (from (placeAfter u profile s i)) ≡ length (tokensBy u profile s)
-    pub same : sets (rowAfter u profile s row i) i (records (placeAfter u profile s i) (from (placeAfter u profile s i))) ≡ sets row 0 (records 0 (tokensBy u profile s))
+    pub same : sets (rowAfter u profile s row i) i (records s (placeAfter u profile s i) (from (placeAfter u profile s i))) ≡ sets row 0 (records s 0 (tokensBy u profile s))
 
   filling-on : (row : List Token) (i : ℕ) → Filling row i → placeAfter u profile s i < length s → Filling row (suc i)
   unfolding records
@@ -67,7 +67,7 @@ module _ (u : Letters) (profile : ℕ) (s : List ℕ) where
       record {
         within = omega (arith, d .within, ap (λ (t : definitions.Token). t .len) (d .first-is));
         count = omega (arith, f .count, ap length e);
-        same = (rw (d .first-is) (ap (λ (ts : List definitions.Token). sets (rowAfter u profile s row i) i (records at ts)) (sym (d .tokens-are)))) ∙ f .same;
+        same = (rw (d .first-is) (ap (λ (ts : List definitions.Token). sets (rowAfter u profile s row i) i (records s at ts)) (sym (d .tokens-are)))) ∙ f .same;
       }
 
   pub filling : (row : List Token) (i : ℕ) → i ≤ length (tokensBy u profile s) → Filling row i
@@ -97,8 +97,8 @@ module _ (u : Letters) (profile : ℕ) (s : List ℕ) where
         let f = filling row i h in
         let z = none-left u profile s (placeAfter u profile s i) l in
         let n : i ≡ length (tokensBy u profile s) = omega (arith, f .count, ap length z) in
-        let k = length-records 0 (tokensBy u profile s) in
-        let e : sets (rowAfter u profile s row i) i (records (placeAfter u profile s i) (from (placeAfter u profile s i))) ≡ rowAfter u profile s row i = rw z in
-        let g : sets row 0 (records 0 (tokensBy u profile s)) ≡ records 0 (tokensBy u profile s) ++ drop i row =
-        sets-eq (records 0 (tokensBy u profile s)) row 0 (omega (arith, k, r)) ∙ rw (zero-add, k, ← n) in
+        let k = length-records s 0 (tokensBy u profile s) in
+        let e : sets (rowAfter u profile s row i) i (records s (placeAfter u profile s i) (from (placeAfter u profile s i))) ≡ rowAfter u profile s row i = rw z in
+        let g : sets row 0 (records s 0 (tokensBy u profile s)) ≡ records s 0 (tokensBy u profile s) ++ drop i row =
+        sets-eq (records s 0 (tokensBy u profile s)) row 0 (omega (arith, k, r)) ∙ rw (zero-add, k, ← n) in
         record { count = n; row-is = sym e ∙ f .same ∙ g }

@@ -54,7 +54,7 @@ pub record-words : (i : ℕ) (row : List Token) (d : Token) → i < length row �
 unfolding words
 record-words i row d h = sym (words-drop i row) ∙ ap words (drop-cons row i d h) ∙ ap (λ (r : List ℕ). fields (getD row i d) ++ r) (words-drop (suc i) row)
 
-words-records : (s : List ℕ) (at : ℕ) (ts : List definitions.Token) → words (records at ts) ≡ flatFrom s at ts
+words-records : (s : List ℕ) (at : ℕ) (ts : List definitions.Token) → words (records s at ts) ≡ flatFrom s at ts
 unfolding words records flatFrom
 words-records s at [] = refl
 words-records s at (t ∷ ts) = ap (λ (r : List ℕ). wordsOf s at t ++ r) (words-records s (at + t .len) ts)
@@ -63,7 +63,7 @@ words-records s at (t ∷ ts) = ap (λ (r : List ℕ). wordsOf s at t ++ r) (wor
 flat-rowed : (s : List ℕ) (profile : ℕ) (row : List Token) → words (rowed s profile row) ≡ listed s profile (words row)
 unfolding rowed listed
 flat-rowed s profile row =
-    let new = records 0 (tokensOf profile s) in
+    let new = records s 0 (tokensOf profile s) in
     by-test (eqb (answerOf s profile (recordWords * length row) .0) done)
     (λ t.
     let m : length (flatFrom s 0 (tokensOf profile s)) ≡ recordWords * length new = ap length (sym (words-records s 0 (tokensOf profile s))) ∙ length-words new in
@@ -85,8 +85,8 @@ unfolding answerOf rowed
 row-starts {s} {profile} {row} {row′} {also = also} d p z =
     let ts = tokensOf profile s in
     let w = was-done (checkCut s profile) (recordWords * length row / recordWords) (length ts) (p .answer) z in
-    let e : row′ ≡ over (records 0 ts) row = p .row-is ∙ rw (eq-eqb _ _ (sym (p .answer .number-is) ∙ z)) in
-    let n : also ≤ length row′ = omega (arith, w .2, ap length e, length-append (records 0 ts) (drop (length (records 0 ts)) row), length-records 0 ts) in
+    let e : row′ ≡ over (records s 0 ts) row = p .row-is ∙ rw (eq-eqb _ _ (sym (p .answer .number-is) ∙ z)) in
+    let n : also ≤ length row′ = omega (arith, w .2, ap length e, length-append (records s 0 ts) (drop (length (records s 0 ts)) row), length-records s 0 ts) in
     let word : (i k : ℕ) → i < also → getD (words row′) (recordWords * i + k) 0 ≡ getD (fields (getD row′ i d) ++ drop (recordWords * suc i) (words row′)) k 0 =
     λ i k h. sym (getD-drop (recordWords * i) (words row′) k 0) ∙ ap (λ (l : List ℕ). getD l k 0) (record-words i row′ d (omega (arith, h, n))) in
     starts-same (λ i h. sym (word i 3 h)) (λ i h. sym (word i 1 h)) (list-starts (as-flat p) z)

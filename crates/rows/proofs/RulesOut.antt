@@ -18,8 +18,10 @@ use Rattle.unicode.specs.Text.{byteLength, skip}
 use Rattle.text.specs.Answer.{checkText, checkMarks, checkCut}
 use Rattle.letters.specs.Chars.{whitespace}
 use Rattle.cutters.specs.Records.{recordWords}
-use Rattle.lexer.specs.Kinds.{marks, markIn}
-use Rattle.lexer.specs.Cut.{isDigit, advance, nextToken, tokens}
+use Rattle.cutters.specs.Kinds.{marks, markIn}
+use Rattle.cutters.specs.Digits.{isDigit}
+use Rattle.cutters.specs.Underscores.{misplacedIn, misplacedOf}
+use Rattle.lexer.specs.Cut.{advance, nextToken, tokens}
 use Rattle.lexer.specs.Unicode.{unicode}
 use Rattle.lexer.specs.Promises.{tokens3, tokensOf}
 use Rattle.listing.specs.Promises.{answerOf}
@@ -30,16 +32,16 @@ abbrev semicolon : List ℕ
 semicolon = 0x3B ∷ []
 
 abbrev seven : Token
-seven = record { kind = 7; len = 7; suffix = 7; start = 7 }
+seven = record { kind = 7; len = 7; suffix = 7; start = 7; misplaced = 7 }
 
 -- a semicolon in a row of two records: the first is its token, and the second is as it was
-leaves : rowed semicolon 0 (seven ∷ seven ∷ []) ≡ record { kind = 10; len = 1; suffix = 0; start = 0 } ∷ seven ∷ []
-unfolding all pieces cut eat inTable xidStart xidContinue emoji table behind begins joined readBy first next chars width bytesBefore validUpTo byteLength skip checkText unmarked unmarkedUpTo checkMarks checkCut whitespace marks markIn unicode tokens3 tokensOf answerOf isDigit advance nextToken tokens records rowed
+leaves : rowed semicolon 0 (seven ∷ seven ∷ []) ≡ record { kind = 10; len = 1; suffix = 0; start = 0; misplaced = 0 } ∷ seven ∷ []
+unfolding all pieces cut eat inTable xidStart xidContinue emoji table behind begins joined readBy first next chars width bytesBefore validUpTo byteLength skip checkText unmarked unmarkedUpTo checkMarks checkCut whitespace marks markIn unicode tokens3 tokensOf answerOf isDigit advance nextToken tokens records rowed misplacedOf misplacedIn
 leaves = refl
 
 -- and two spaces before one, in a row that they fill
-spaces-leave : rowed (0x20 ∷ 0x20 ∷ semicolon) 0 (seven ∷ seven ∷ []) ≡ record { kind = 4; len = 2; suffix = 0; start = 0 } ∷ record { kind = 10; len = 1; suffix = 0; start = 2 } ∷ []
-unfolding all pieces cut eat inTable xidStart xidContinue emoji table behind begins joined readBy first next chars width bytesBefore validUpTo byteLength skip checkText unmarked unmarkedUpTo checkMarks checkCut whitespace marks markIn unicode tokens3 tokensOf answerOf isDigit advance nextToken tokens records rowed
+spaces-leave : rowed (0x20 ∷ 0x20 ∷ semicolon) 0 (seven ∷ seven ∷ []) ≡ record { kind = 4; len = 2; suffix = 0; start = 0; misplaced = 0 } ∷ record { kind = 10; len = 1; suffix = 0; start = 2; misplaced = 0 } ∷ []
+unfolding all pieces cut eat inTable xidStart xidContinue emoji table behind begins joined readBy first next chars width bytesBefore validUpTo byteLength skip checkText unmarked unmarkedUpTo checkMarks checkCut whitespace marks markIn unicode tokens3 tokensOf answerOf isDigit advance nextToken tokens records rowed misplacedOf misplacedIn
 spaces-leave = refl
 
 -- nothing written
@@ -51,7 +53,7 @@ pub rules-out-other-starts : {n a : ℕ} {l : List Token} → Rowed (0x20 ∷ 0x
 rules-out-other-starts p = (ap (λ (x : List Token). getD x 0 seven .start) (p .row-is ∙ spaces-leave), ap (λ (x : List Token). getD x 1 seven .start) (p .row-is ∙ spaces-leave))
 
 -- a record more than there are tokens
-pub rules-out-one-more : {n a : ℕ} {t : Token} → Rowed semicolon 0 (seven ∷ seven ∷ []) n a (record { kind = 10; len = 1; suffix = 0; start = 0 } ∷ t ∷ []) → t ≡ seven
+pub rules-out-one-more : {n a : ℕ} {t : Token} → Rowed semicolon 0 (seven ∷ seven ∷ []) n a (record { kind = 10; len = 1; suffix = 0; start = 0; misplaced = 0 } ∷ t ∷ []) → t ≡ seven
 rules-out-one-more p = ap (λ (x : List Token). getD x 1 seven) (p .row-is ∙ leaves)
 
 -- a refusal that writes, at any text, profile and row: a refused call leaves the row as it was

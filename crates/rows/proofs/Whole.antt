@@ -35,18 +35,18 @@ front-one [] = refl
 front-one (t ∷ ts) = refl
 
 -- the first of a run of one
-first-run : (u : Letters) (profile : ℕ) (s : List ℕ) (at : ℕ) → length s ≤ longest → recordOf at (front (run u profile s at 1)) ≡ recordAt u profile s at
+first-run : (u : Letters) (profile : ℕ) (s : List ℕ) (at : ℕ) → length s ≤ longest → recordOf s at (front (run u profile s at 1)) ≡ recordAt u profile s at
 unfolding run
 first-run u profile s at short = rw (le-ltb longest (length s) short, front-one (tokensBy u profile (drop at s)))
 
 -- what `token_at` says, as a record
-pub token-at : {u : Letters} {profile : ℕ} {s : List ℕ} {at kind suffixAt end : ℕ} → length s ≤ longest → TokenAt u profile s at kind suffixAt end →
-    _≡_ {A = Token} (record { kind = kind; len = end - at; suffix = suffixAt - at; start = at }) (recordAt u profile s at)
-token-at {u} {profile} {s} {at} {kind} {suffixAt} {end} short a =
+pub token-at : {u : Letters} {profile : ℕ} {s : List ℕ} {at kind suffixAt found end : ℕ} → length s ≤ longest → TokenAt u profile s at kind suffixAt found end →
+    _≡_ {A = Token} (record { kind = kind; len = end - at; suffix = suffixAt - at; start = at; misplaced = found }) (recordAt u profile s at)
+token-at {u} {profile} {s} {at} {kind} {suffixAt} {found} {end} short a =
     let t = front (run u profile s at 1) in
     let l : end - at ≡ t .len = omega (arith, a .end-is) in
     let m : suffixAt - at ≡ t .suffix = omega (arith, a .suffix-is) in
-    rw (a .kind-is, l, m) (first-run u profile s at short)
+    rw (a .kind-is, l, m, a .found-is) (first-run u profile s at short)
 
 -- ---- the checks
 whole-records : (room : ℕ) → recordWords * room / recordWords ≡ room
@@ -147,7 +147,7 @@ module _ {s : List ℕ} {profile number also : ℕ} (row : List Token) (j : Judg
   unfolding rowed
   rowed-done {n} f a =
       let e = own s profile (passes .0) in
-      let k : length (records 0 (tokensBy unicode profile s)) ≡ n = length-records 0 (tokensBy unicode profile s) ∙ sym (f .count) in
+      let k : length (records s 0 (tokensBy unicode profile s)) ≡ n = length-records s 0 (tokensBy unicode profile s) ∙ sym (f .count) in
       record {
         answer = rw answer-is (record { number-is = a .number-is; also-is = a .also-is ∙ f .count ∙ ap length (sym e) });
         row-is = rw (answer-is, e, k) (f .row-is);

@@ -9,24 +9,25 @@ use lib.ListN.{length, take, drop}
 use Rattle.lists.specs.Over.{over}
 use Rattle.text.specs.Answer.{Answered, done}
 use Rattle.cutters.specs.Records as definitions
-use Rattle.cutters.specs.Records.{recordWords}
+use Rattle.cutters.specs.Records.{recordWords, misplacedAt}
 use Rattle.lexer.specs.Promises.{tokensOf}
 use Rattle.listing.specs.Promises.{answerOf}
 use Rattle.rows.specs.declared.Token.{Token}
 
--- the record of a token that stands at a place of the text: its kind, its length in bytes, its suffix start, and the place
-abbrev pub recordOf : ℕ → definitions.Token → Token
-recordOf at t = record { kind = t .kind; len = t .len; suffix = t .suffix; start = at }
+-- the record of a token that stands at a place of the text s: its kind, its length in bytes, its suffix start, the place, and where in it its first misplaced
+-- underscore stands
+abbrev pub recordOf : List ℕ → ℕ → definitions.Token → Token
+recordOf s at t = record { kind = t .kind; len = t .len; suffix = t .suffix; start = at; misplaced = misplacedAt s at t }
 
 -- the records of tokens that lie in the text one behind the other, from a place on
-unfoldable pub records : ℕ → List definitions.Token → List Token
-records at [] = []
-records at (t ∷ ts) = recordOf at t ∷ records (at + t .len) ts
+unfoldable pub records : List ℕ → ℕ → List definitions.Token → List Token
+records s at [] = []
+records s at (t ∷ ts) = recordOf s at t ∷ records s (at + t .len) ts
 
 -- the records of the tokens, and behind them what stood there; a refusal changes nothing
 unfoldable pub rowed : List ℕ → ℕ → List Token → List Token
 rowed s profile row =
-    cond (eqb (answerOf s profile (recordWords * length row) .0) done) (over (records 0 (tokensOf profile s)) row) row
+    cond (eqb (answerOf s profile (recordWords * length row) .0) done) (over (records s 0 (tokensOf profile s)) row) row
 
 -- the answer is that of `tokenize`, for a list with the words of each record of the row
 pub record Rowed (s : List ℕ) (profile : ℕ) (row : List Token) (number also : ℕ) (row′ : List Token) : Type 0 where
@@ -35,7 +36,7 @@ pub record Rowed (s : List ℕ) (profile : ℕ) (row : List Token) (number also 
 
 -- ---- a row as flat words: the fields of each record in their order, one record after the other
 abbrev pub fields : Token → List ℕ
-fields t = t .kind ∷ t .len ∷ t .suffix ∷ t .start ∷ []
+fields t = t .kind ∷ t .len ∷ t .suffix ∷ t .start ∷ t .misplaced ∷ []
 
 unfoldable pub words : List Token → List ℕ
 words [] = []

@@ -23,7 +23,7 @@ pub record Judged (s : List ℕ) (profile room number also : ℕ) : Type 0 where
 
 -- the record of the token at a place
 abbrev pub recordAt : Letters → ℕ → List ℕ → ℕ → Token
-recordAt u profile s at = recordOf at (front (tokensBy u profile (drop at s)))
+recordAt u profile s at = recordOf s at (front (tokensBy u profile (drop at s)))
 
 -- the place behind i tokens, the record there, and the row when those before it are stored
 abbrev pub placeAfter : Letters → ℕ → List ℕ → ℕ → ℕ
@@ -40,4 +40,4 @@ rowAfter u profile s row (suc i) = set (rowAfter u profile s row i) i (recordNo 
 -- all tokens are stored, and counted
 pub record Filled (u : Letters) (profile : ℕ) (s : List ℕ) (row : List Token) (n : ℕ) (row′ : List Token) : Type 0 where
   pub count : n ≡ length (tokensBy u profile s)
-  pub row-is : row′ ≡ records 0 (tokensBy u profile s) ++ drop n row
+  pub row-is : row′ ≡ records s 0 (tokensBy u profile s) ++ drop n row

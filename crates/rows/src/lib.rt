@@ -15,13 +15,14 @@ use text::Answer;
 use text::check_cut;
 use ucd::tables;
 
-// A token as `tokenize` lists it in words: kind, length in bytes, suffix start, and where it starts in the text, in bytes.
+// A token as `tokenize` lists it in words.
 #[repr(C)]
 pub struct Token {
     pub kind: u32,
     pub len: u32,
     pub suffix: u32,
     pub start: u32,
+    pub misplaced: u32,
 }
 
 // The checks, for a row of so many records. A row of as many records as the text has bytes cannot be short, and nothing is
@@ -64,6 +65,7 @@ fn token_from<'a, 't>(
         len: (t.end - at) as u32,
         suffix: (t.suffix - at) as u32,
         start: at as u32,
+        misplaced: t.misplaced as u32,
     }
 }
 

@@ -9,7 +9,7 @@ use lib.ListN.{length, drop, length-drop, drop-of-length-le}
 use lib.Seq.{drop-drop}
 use borrow.Author.Tests.{le-ltb}
 use Rattle.text.specs.Answer.{longest}
-use Rattle.lexer.specs.Kinds.{eof}
+use Rattle.cutters.specs.Kinds.{eof}
 use Rattle.cutters.specs.Records.{Token}
 use Rattle.lexer.specs.Cut.{Letters}
 use Rattle.lexer.specs.Promises.{front, tokensBy}
@@ -48,7 +48,7 @@ some-first : {cut : List ℕ → List Token} → Keyable cut → (s : List ℕ) 
 some-first c [] h = absurd (omega arith)
 some-first c (a ∷ s) h = first-of c a s
 
-module _ {u : Letters} {profile : ℕ} {s : List ℕ} {at kind suffixAt end : ℕ} (short : length s ≤ longest) (h : at < length s) (a : TokenAt u profile s at kind suffixAt end) where
+module _ {u : Letters} {profile : ℕ} {s : List ℕ} {at kind suffixAt found end : ℕ} (short : length s ≤ longest) (h : at < length s) (a : TokenAt u profile s at kind suffixAt found end) where
   abbrev tok : Token
   tok = record { kind = kind; len = end - at; suffix = suffixAt - at }
 
@@ -107,7 +107,7 @@ pub record Seeking (cut : List ℕ → List Token) (s : List ℕ) (from at : ℕ
 pub seeking-none : (cut : List ℕ → List Token) (s : List ℕ) (from : ℕ) → from ≤ length s → Seeking cut s from from
 seeking-none cut s from h = record { after = omega arith; within = h; members = refl; seen = refl }
 
-module _ {u : Letters} {profile : ℕ} {s : List ℕ} {from at kind suffixAt end : ℕ} (w : Seeking (tokensBy u profile) s from at) (short : length s ≤ longest) (h : at < length s) (a : TokenAt u profile s at kind suffixAt end) where
+module _ {u : Letters} {profile : ℕ} {s : List ℕ} {from at kind suffixAt found end : ℕ} (w : Seeking (tokensBy u profile) s from at) (short : length s ≤ longest) (h : at < length s) (a : TokenAt u profile s at kind suffixAt found end) where
   pub seeking-found : {b : Bool} → b ≡ isCounted kind → b ≡ true → Ahead (tokensBy u profile) s from kind at suffixAt end
   seeking-found b e =
       let c : isCounted kind ≡ true = sym b ∙ e in

@@ -11,7 +11,7 @@ use lib.ListN.{length, drop, getD}
 use lib.Seq.{drop-drop, getD-drop}
 use borrow.Author.Tests.{eqb-true, eq-eqb, not-true, not-false}
 use Rattle.lists.proofs.Bools.{by-test, both}
-use Rattle.lexer.specs.Kinds.{eof}
+use Rattle.cutters.specs.Kinds.{eof}
 use Rattle.cutters.specs.Records.{Token}
 use Rattle.tokens.specs.Members.{Member, membersBy}
 use Rattle.same.specs.Compare.{Sight, Compared, alike, agree, sights, endOf, same, different, partedBy, showing}

@@ -7,7 +7,7 @@ use Prim.Native.Nat.{ℕ, suc, _+_, _≤_}
 use lib.Dec.{eqb}
 use lib.ListN.{length, take, drop, getD}
 use Rattle.text.specs.Answer.{done, checkCut}
-use Rattle.lexer.specs.Kinds.{eof}
+use Rattle.cutters.specs.Kinds.{eof}
 use Rattle.cutters.specs.Records.{Token}
 use Rattle.lexer.specs.Promises.{tokensOf}
 use Rattle.tokens.specs.Members.{Member, isCounted, membersBy}

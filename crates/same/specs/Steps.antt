@@ -4,7 +4,7 @@ use mathlib.Core.Path.{_≡_}
 use mathlib.Core.List.{List, [], _∷_}
 use Prim.Native.Nat.{ℕ, _-_, _≤_, _<_}
 use lib.ListN.{length, take, drop}
-use Rattle.lexer.specs.Kinds.{eof}
+use Rattle.cutters.specs.Kinds.{eof}
 use Rattle.cutters.specs.Records.{Token}
 use Rattle.tokens.specs.Members.{Member, membersBy}
 use Rattle.same.specs.Compare.{Sight, sights}

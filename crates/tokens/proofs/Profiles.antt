@@ -19,9 +19,10 @@ use Rattle.unicode.specs.Ranges.{inTable}
 use Rattle.text.specs.Answer.{defaultProfile}
 use Rattle.ucd.specs.Ucd.{xidStart, xidContinue}
 use Rattle.letters.specs.Chars.{isWhitespace, whitespace}
-use Rattle.lexer.specs.Kinds.{ident, invalidIdent}
+use Rattle.cutters.specs.Kinds.{ident, invalidIdent}
 use Rattle.cutters.specs.Records.{Token, total}
-use Rattle.lexer.specs.Cut.{Letters, peek, notLf, agree, pragmaWord, wideEmoji, name, word, advance, nextToken, tokens}
+use Rattle.cutters.specs.Digits.{peek}
+use Rattle.lexer.specs.Cut.{Letters, notLf, agree, pragmaWord, wideEmoji, name, word, advance, nextToken, tokens}
 use Rattle.lexer.specs.Unicode.{unicode}
 use Rattle.lexer.specs.Promises.{tokens3, tokensOf}
 use Rattle.lexer.proofs.Shapes.{name-part, tokens-nil}

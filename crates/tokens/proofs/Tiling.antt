@@ -15,7 +15,7 @@ use Rattle.unicode.specs.Utf8.{chars}
 use Rattle.unicode.specs.Text.{byteLength}
 use Rattle.unicode.proofs.Text.{bytes-chars, ends-bytes}
 use Rattle.unicode.proofs.Valid.{width-some}
-use Rattle.lexer.specs.Kinds.{isPlain, isLiteral}
+use Rattle.cutters.specs.Kinds.{isPlain, isLiteral}
 use Rattle.lexer.specs.Cut.{Letters, Piece, advance, nextToken, tokens}
 use Rattle.lexer.specs.Unicode.{unicode}
 use Rattle.lexer.specs.Promises.{tokens3}

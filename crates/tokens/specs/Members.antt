@@ -5,7 +5,7 @@ use mathlib.Core.List.{List, [], _∷_}
 use Prim.Native.Nat.{ℕ}
 use lib.Dec.{eqb}
 use lib.ListN.{take, drop}
-use Rattle.lexer.specs.Kinds.{lineComment, blockComment, whitespaceKind}
+use Rattle.cutters.specs.Kinds.{lineComment, blockComment, whitespaceKind}
 use Rattle.cutters.specs.Records.{Token}
 use Rattle.lexer.specs.Promises.{tokens3, tokensOf}
 

@@ -7,7 +7,7 @@ use mathlib.Core.List.{List, [], _∷_, _++_}
 use lib.Dec.{eqb}
 use lib.ListN.{length, take, drop}
 use Rattle.unicode.specs.Text.{skip}
-use Rattle.lexer.specs.Kinds.{ident, invalidIdent, pragma}
+use Rattle.cutters.specs.Kinds.{ident, invalidIdent, pragma}
 use Rattle.cutters.specs.Records.{Token, total}
 use Rattle.lexer.specs.Cut.{notLf, agree, pragmaWord}
 

@@ -5,7 +5,7 @@ use mathlib.Core.Path.{_≡_}
 use mathlib.Core.Bool.{true, _||_}
 use mathlib.Core.List.{List}
 use Rattle.lists.specs.All.{Each}
-use Rattle.lexer.specs.Kinds.{isPlain, isLiteral}
+use Rattle.cutters.specs.Kinds.{isPlain, isLiteral}
 use Rattle.cutters.specs.Records.{Token, total}
 
 -- a token's record: it has a kind that is listed and at least one byte; suffix start 0 unless it is a literal, else between 1 and its length

@@ -3,7 +3,7 @@ use native.Mathlib.Omega.{arith}
 use mathlib.Core.Path.{refl}
 use mathlib.Core.Logic.{inl, inr}
 use Rattle.lexer.specs.Unicode.{lent}
-use Rattle.lexer.proofs.Places.{end-some, end-within, suffix-after, suffix-within}
+use Rattle.lexer.proofs.Places.{end-some, end-within, suffix-after, suffix-within, found-within}
 use Rattle.listing.proofs.Whole.{Filling, filling-none, fill-room, fill-on, fill-left}
 use borrow.Author.Needs.{needs}
 use Rattle.listing.proofs.fill.Statement.{statement}
@@ -36,6 +36,9 @@ sub-suffix c = omega (arith, suffix-after)
 cast-suffix : tie.Need-cast-suffix Inv-loop μ-loop
 cast-suffix c = omega (arith, suffix-within)
 
+cast-misplaced : tie.Need-cast-misplaced Inv-loop μ-loop
+cast-misplaced c = omega (arith, found-within)
+
 cast-put : tie.Need-cast-put Inv-loop μ-loop
 cast-put c = omega (arith, end-within)
 
@@ -43,13 +46,16 @@ put-requires : tie.Need-put-requires Inv-loop μ-loop
 put-requires c κs = search (needs, fill-room)
 
 add-k : tie.Need-add-k Inv-loop μ-loop
-add-k c = search (needs, fill-room)
+add-k c =
+    let w = c .before .before .before .before .before .before .before .before .before .before .loop .inv in
+    omega (arith, fill-room w (c .before .before .before .before .before .before .before .before .before .loop-test .taken), w .full-is, w .stored, w .room-is, mul-full (c .before .before .before .before .before .before .before .before .before .before .before) .fits)
 
 loop-less : tie.Need-loop-less Inv-loop μ-loop
 loop-less c = omega arith
 
 loop-again : tie.Need-loop-again Inv-loop μ-loop
-loop-again c = search (needs, fill-on)
+loop-again c =
+    fill-on (c .before .before .before .before .before .before .before .before .before .before .loop .inv) (c .before .before .before .before .before .before .before .before .before .loop-test .taken) (c .before .before .before .before .before .before .before .before .if1 .left) (c .before .before .before .before .before .before .before .advance-token .ensures) (c .before .before .put .ensures) refl
 
 same-length : tie.Need-same-length Inv-loop μ-loop
 same-length c = search needs
@@ -71,6 +77,7 @@ fill-spec =
     cast-len
     sub-suffix
     cast-suffix
+    cast-misplaced
     cast-put
     put-requires
     add-k

@@ -1,4 +1,4 @@
-use native.Mathlib.Numerals.{add-one, add-two, add-three}
+use native.Mathlib.Numerals.{add-one, add-two, add-three, add-four}
 use native.Mathlib.Omega.{arith}
 use lib.ListN.{length-set}
 use borrow.Author.Needs.{needs}
@@ -40,11 +40,20 @@ mul-list-4 c = search needs
 slice-write-list-4 : tie.Need-slice-write-list-4
 slice-write-list-4 c = simp length-set (omega (arith, c .pre))
 
+add-list-4 : tie.Need-add-list-4
+add-list-4 c = search needs
+
+mul-list-5 : tie.Need-mul-list-5
+mul-list-5 c = search needs
+
+slice-write-list-5 : tie.Need-slice-write-list-5
+slice-write-list-5 c = simp length-set (omega (arith, c .pre))
+
 same-length : tie.Need-same-length
 same-length c = search needs
 
 returns : tie.Need-returns
-returns c = rw (add-one, add-two, add-three)
+returns c = rw (add-one, add-two, add-three, add-four)
 
 pub put-spec : {M : Type 1} → statement M
 put-spec =
@@ -61,5 +70,8 @@ put-spec =
     add-list-3
     mul-list-4
     slice-write-list-4
+    add-list-4
+    mul-list-5
+    slice-write-list-5
     same-length
     returns)

@@ -141,7 +141,7 @@ module _ {M : Type 1} (𝓤 : URA M) (H : Heap 𝓤) (A : Atoms 𝓤) (W : Given
   s = sliceVal (b, o) (length xs)
 
   abbrev mach : Token → Val
-  mach t = vstruct (vcons (vint w32 (t .kind)) (vcons (vint w32 (t .len)) (vcons (vint w32 (t .suffix)) (vcons (vint w32 (t .start)) vnil))))
+  mach t = vstruct (vcons (vint w32 (t .kind)) (vcons (vint w32 (t .len)) (vcons (vint w32 (t .suffix)) (vcons (vint w32 (t .start)) (vcons (vint w32 (t .misplaced)) vnil)))))
 
   abbrev Arg : Type 0
   Arg = RefT (List ℕ) × (ℕ × (RefT (List Token) × (RefT (List ℕ) × (RefT (List ℕ) × (RefT (List ℕ) × Unit {0})))))

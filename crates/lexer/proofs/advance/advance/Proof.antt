@@ -3,8 +3,9 @@ use mathlib.Core.Logic.{⊎-elim}
 use Rattle.unicode.specs.Ranges.{inTable}
 use Rattle.ucd.specs.Properties.{asciiStart, testedIn}
 use Rattle.letters.specs.Chars.{whitespace}
-use Rattle.lexer.specs.Kinds.{marks, markIn}
-use Rattle.lexer.specs.Cut.{isDigit, advance}
+use Rattle.cutters.specs.Kinds.{marks, markIn}
+use Rattle.cutters.specs.Digits.{isDigit}
+use Rattle.lexer.specs.Cut.{advance}
 use Rattle.lexer.proofs.Dispatch.{not-key, upper, lower, digit, underscore, wide-low, wide-middle, wide-high, free-first, free-second, free-third, free-last, late-ascii, no-emoji, space, next-line, controls, directions, separators}
 use Rattle.lexer.proofs.Advancing.{advancing, told, cut-key, cut-space, cut-number, cut-string, cut-unknown}
 use borrow.Author.Needs.{needs}
@@ -32,8 +33,8 @@ plain-part-requires-3 c κs = search needs
 hardware-ident-requires : tie.Need-hardware-ident-requires
 hardware-ident-requires c κs = search needs
 
-plain-part-requires-4 : tie.Need-plain-part-requires-4
-plain-part-requires-4 c κs = search needs
+wire-requires : tie.Need-wire-requires
+wire-requires c κs = search needs
 
 plain-requires : tie.Need-plain-requires
 plain-requires c κs = search needs
@@ -142,95 +143,95 @@ returns-4 c = search (needs, advancing)
 
 returns-5 : tie.Need-returns-5
 unfolding advance whitespace inTable testedIn asciiStart isDigit marks markIn
-returns-5 c = told (c .plain .ensures) (cut-key _ _ (c .before .before .before .before .before .before .pre) 0x3B _ (c .before .match .keys9) (λ t. refl))
+returns-5 c = told (c .plain .ensures) (cut-key _ _ (c .before .before .before .before .before .before .pre) 0x3B _ (c .before .match .keys9) (λ t. refl) (record { number = refl; wire = refl }))
 
 returns-6 : tie.Need-returns-6
 unfolding advance whitespace inTable testedIn asciiStart isDigit marks markIn
-returns-6 c = told (c .plain2 .ensures) (cut-key _ _ (c .before .before .before .before .before .before .pre) 0x2C _ (c .before .match .keys10) (λ t. refl))
+returns-6 c = told (c .plain2 .ensures) (cut-key _ _ (c .before .before .before .before .before .before .pre) 0x2C _ (c .before .match .keys10) (λ t. refl) (record { number = refl; wire = refl }))
 
 returns-7 : tie.Need-returns-7
 unfolding advance whitespace inTable testedIn asciiStart isDigit marks markIn
-returns-7 c = told (c .plain3 .ensures) (cut-key _ _ (c .before .before .before .before .before .before .pre) 0x2E _ (c .before .match .keys11) (λ t. refl))
+returns-7 c = told (c .plain3 .ensures) (cut-key _ _ (c .before .before .before .before .before .before .pre) 0x2E _ (c .before .match .keys11) (λ t. refl) (record { number = refl; wire = refl }))
 
 returns-8 : tie.Need-returns-8
 unfolding advance whitespace inTable testedIn asciiStart isDigit marks markIn
-returns-8 c = told (c .plain4 .ensures) (cut-key _ _ (c .before .before .before .before .before .before .pre) 0x28 _ (c .before .match .keys12) (λ t. refl))
+returns-8 c = told (c .plain4 .ensures) (cut-key _ _ (c .before .before .before .before .before .before .pre) 0x28 _ (c .before .match .keys12) (λ t. refl) (record { number = refl; wire = refl }))
 
 returns-9 : tie.Need-returns-9
 unfolding advance whitespace inTable testedIn asciiStart isDigit marks markIn
-returns-9 c = told (c .plain5 .ensures) (cut-key _ _ (c .before .before .before .before .before .before .pre) 0x29 _ (c .before .match .keys13) (λ t. refl))
+returns-9 c = told (c .plain5 .ensures) (cut-key _ _ (c .before .before .before .before .before .before .pre) 0x29 _ (c .before .match .keys13) (λ t. refl) (record { number = refl; wire = refl }))
 
 returns-10 : tie.Need-returns-10
 unfolding advance whitespace inTable testedIn asciiStart isDigit marks markIn
-returns-10 c = told (c .plain6 .ensures) (cut-key _ _ (c .before .before .before .before .before .before .pre) 0x7B _ (c .before .match .keys14) (λ t. refl))
+returns-10 c = told (c .plain6 .ensures) (cut-key _ _ (c .before .before .before .before .before .before .pre) 0x7B _ (c .before .match .keys14) (λ t. refl) (record { number = refl; wire = refl }))
 
 returns-11 : tie.Need-returns-11
 unfolding advance whitespace inTable testedIn asciiStart isDigit marks markIn
-returns-11 c = told (c .plain7 .ensures) (cut-key _ _ (c .before .before .before .before .before .before .pre) 0x7D _ (c .before .match .keys15) (λ t. refl))
+returns-11 c = told (c .plain7 .ensures) (cut-key _ _ (c .before .before .before .before .before .before .pre) 0x7D _ (c .before .match .keys15) (λ t. refl) (record { number = refl; wire = refl }))
 
 returns-12 : tie.Need-returns-12
 unfolding advance whitespace inTable testedIn asciiStart isDigit marks markIn
-returns-12 c = told (c .plain8 .ensures) (cut-key _ _ (c .before .before .before .before .before .before .pre) 0x5B _ (c .before .match .keys16) (λ t. refl))
+returns-12 c = told (c .plain8 .ensures) (cut-key _ _ (c .before .before .before .before .before .before .pre) 0x5B _ (c .before .match .keys16) (λ t. refl) (record { number = refl; wire = refl }))
 
 returns-13 : tie.Need-returns-13
 unfolding advance whitespace inTable testedIn asciiStart isDigit marks markIn
-returns-13 c = told (c .plain9 .ensures) (cut-key _ _ (c .before .before .before .before .before .before .pre) 0x5D _ (c .before .match .keys17) (λ t. refl))
+returns-13 c = told (c .plain9 .ensures) (cut-key _ _ (c .before .before .before .before .before .before .pre) 0x5D _ (c .before .match .keys17) (λ t. refl) (record { number = refl; wire = refl }))
 
 returns-14 : tie.Need-returns-14
 unfolding advance whitespace inTable testedIn asciiStart isDigit marks markIn
-returns-14 c = told (c .plain10 .ensures) (cut-key _ _ (c .before .before .before .before .before .before .pre) 0x7E _ (c .before .match .keys18) (λ t. refl))
+returns-14 c = told (c .plain10 .ensures) (cut-key _ _ (c .before .before .before .before .before .before .pre) 0x7E _ (c .before .match .keys18) (λ t. refl) (record { number = refl; wire = refl }))
 
 returns-15 : tie.Need-returns-15
 unfolding advance whitespace inTable testedIn asciiStart isDigit marks markIn
-returns-15 c = told (c .plain11 .ensures) (cut-key _ _ (c .before .before .before .before .before .before .pre) 0x3F _ (c .before .match .keys19) (λ t. refl))
+returns-15 c = told (c .plain11 .ensures) (cut-key _ _ (c .before .before .before .before .before .before .pre) 0x3F _ (c .before .match .keys19) (λ t. refl) (record { number = refl; wire = refl }))
 
 returns-16 : tie.Need-returns-16
 unfolding advance whitespace inTable testedIn asciiStart isDigit marks markIn
-returns-16 c = told (c .plain12 .ensures) (cut-key _ _ (c .before .before .before .before .before .before .pre) 0x3A _ (c .before .match .keys20) (λ t. refl))
+returns-16 c = told (c .plain12 .ensures) (cut-key _ _ (c .before .before .before .before .before .before .pre) 0x3A _ (c .before .match .keys20) (λ t. refl) (record { number = refl; wire = refl }))
 
 returns-17 : tie.Need-returns-17
 unfolding advance whitespace inTable testedIn asciiStart isDigit marks markIn
-returns-17 c = told (c .plain13 .ensures) (cut-key _ _ (c .before .before .before .before .before .before .pre) 0x3D _ (c .before .match .keys21) (λ t. refl))
+returns-17 c = told (c .plain13 .ensures) (cut-key _ _ (c .before .before .before .before .before .before .pre) 0x3D _ (c .before .match .keys21) (λ t. refl) (record { number = refl; wire = refl }))
 
 returns-18 : tie.Need-returns-18
 unfolding advance whitespace inTable testedIn asciiStart isDigit marks markIn
-returns-18 c = told (c .plain14 .ensures) (cut-key _ _ (c .before .before .before .before .before .before .pre) 0x21 _ (c .before .match .keys22) (λ t. refl))
+returns-18 c = told (c .plain14 .ensures) (cut-key _ _ (c .before .before .before .before .before .before .pre) 0x21 _ (c .before .match .keys22) (λ t. refl) (record { number = refl; wire = refl }))
 
 returns-19 : tie.Need-returns-19
 unfolding advance whitespace inTable testedIn asciiStart isDigit marks markIn
-returns-19 c = told (c .plain15 .ensures) (cut-key _ _ (c .before .before .before .before .before .before .pre) 0x3C _ (c .before .match .keys23) (λ t. refl))
+returns-19 c = told (c .plain15 .ensures) (cut-key _ _ (c .before .before .before .before .before .before .pre) 0x3C _ (c .before .match .keys23) (λ t. refl) (record { number = refl; wire = refl }))
 
 returns-20 : tie.Need-returns-20
 unfolding advance whitespace inTable testedIn asciiStart isDigit marks markIn
-returns-20 c = told (c .plain16 .ensures) (cut-key _ _ (c .before .before .before .before .before .before .pre) 0x3E _ (c .before .match .keys24) (λ t. refl))
+returns-20 c = told (c .plain16 .ensures) (cut-key _ _ (c .before .before .before .before .before .before .pre) 0x3E _ (c .before .match .keys24) (λ t. refl) (record { number = refl; wire = refl }))
 
 returns-21 : tie.Need-returns-21
 unfolding advance whitespace inTable testedIn asciiStart isDigit marks markIn
-returns-21 c = told (c .plain17 .ensures) (cut-key _ _ (c .before .before .before .before .before .before .pre) 0x2D _ (c .before .match .keys25) (λ t. refl))
+returns-21 c = told (c .plain17 .ensures) (cut-key _ _ (c .before .before .before .before .before .before .pre) 0x2D _ (c .before .match .keys25) (λ t. refl) (record { number = refl; wire = refl }))
 
 returns-22 : tie.Need-returns-22
 unfolding advance whitespace inTable testedIn asciiStart isDigit marks markIn
-returns-22 c = told (c .plain18 .ensures) (cut-key _ _ (c .before .before .before .before .before .before .pre) 0x26 _ (c .before .match .keys26) (λ t. refl))
+returns-22 c = told (c .plain18 .ensures) (cut-key _ _ (c .before .before .before .before .before .before .pre) 0x26 _ (c .before .match .keys26) (λ t. refl) (record { number = refl; wire = refl }))
 
 returns-23 : tie.Need-returns-23
 unfolding advance whitespace inTable testedIn asciiStart isDigit marks markIn
-returns-23 c = told (c .plain19 .ensures) (cut-key _ _ (c .before .before .before .before .before .before .pre) 0x7C _ (c .before .match .keys27) (λ t. refl))
+returns-23 c = told (c .plain19 .ensures) (cut-key _ _ (c .before .before .before .before .before .before .pre) 0x7C _ (c .before .match .keys27) (λ t. refl) (record { number = refl; wire = refl }))
 
 returns-24 : tie.Need-returns-24
 unfolding advance whitespace inTable testedIn asciiStart isDigit marks markIn
-returns-24 c = told (c .plain20 .ensures) (cut-key _ _ (c .before .before .before .before .before .before .pre) 0x2B _ (c .before .match .keys28) (λ t. refl))
+returns-24 c = told (c .plain20 .ensures) (cut-key _ _ (c .before .before .before .before .before .before .pre) 0x2B _ (c .before .match .keys28) (λ t. refl) (record { number = refl; wire = refl }))
 
 returns-25 : tie.Need-returns-25
 unfolding advance whitespace inTable testedIn asciiStart isDigit marks markIn
-returns-25 c = told (c .plain21 .ensures) (cut-key _ _ (c .before .before .before .before .before .before .pre) 0x2A _ (c .before .match .keys29) (λ t. refl))
+returns-25 c = told (c .plain21 .ensures) (cut-key _ _ (c .before .before .before .before .before .before .pre) 0x2A _ (c .before .match .keys29) (λ t. refl) (record { number = refl; wire = refl }))
 
 returns-26 : tie.Need-returns-26
 unfolding advance whitespace inTable testedIn asciiStart isDigit marks markIn
-returns-26 c = told (c .plain22 .ensures) (cut-key _ _ (c .before .before .before .before .before .before .pre) 0x5E _ (c .before .match .keys30) (λ t. refl))
+returns-26 c = told (c .plain22 .ensures) (cut-key _ _ (c .before .before .before .before .before .before .pre) 0x5E _ (c .before .match .keys30) (λ t. refl) (record { number = refl; wire = refl }))
 
 returns-27 : tie.Need-returns-27
 unfolding advance whitespace inTable testedIn asciiStart isDigit marks markIn
-returns-27 c = told (c .plain23 .ensures) (cut-key _ _ (c .before .before .before .before .before .before .pre) 0x25 _ (c .before .match .keys31) (λ t. refl))
+returns-27 c = told (c .plain23 .ensures) (cut-key _ _ (c .before .before .before .before .before .before .pre) 0x25 _ (c .before .match .keys31) (λ t. refl) (record { number = refl; wire = refl }))
 
 returns-28 : tie.Need-returns-28
 returns-28 c =
@@ -273,7 +274,7 @@ advance-spec =
     annotation-requires
     plain-part-requires-3
     hardware-ident-requires
-    plain-part-requires-4
+    wire-requires
     plain-requires
     plain-requires-2
     plain-requires-3

@@ -7,6 +7,9 @@ use Rattle.lexer.proofs.advance.numeral.Tie as tie
 number-requires : tie.Need-number-requires
 number-requires c κs = search (needs, advancing, suffixes)
 
+place-in-requires : tie.Need-place-in-requires
+place-in-requires c κs = search (needs, advancing, suffixes)
+
 has-timing-or-imaginary-suffix-requires : tie.Need-has-timing-or-imaginary-suffix-requires
 has-timing-or-imaginary-suffix-requires c κs = search (needs, advancing, suffixes)
 
@@ -24,6 +27,7 @@ numeral-spec =
     tie.close
     (tie.spec
     number-requires
+    place-in-requires
     has-timing-or-imaginary-suffix-requires
     returns
     eat-literal-suffix-requires

@@ -1,5 +1,5 @@
 use Rattle.lexer.proofs.Flags.{flags}
-use Rattle.lexer.specs.Cut.{isDigit}
+use Rattle.cutters.specs.Digits.{isDigit}
 use borrow.Author.Needs.{needs}
 use Rattle.lexer.proofs.cursor.is_digit.Statement.{statement}
 use Rattle.lexer.proofs.cursor.is_digit.Tie as tie

@@ -1,5 +1,5 @@
 use Rattle.lexer.proofs.Flags.{flags}
-use Rattle.lexer.specs.Cut.{isHexDigit}
+use Rattle.cutters.specs.Digits.{isHexDigit}
 use borrow.Author.Needs.{needs}
 use Rattle.lexer.proofs.cursor.is_hex_digit.Statement.{statement}
 use Rattle.lexer.proofs.cursor.is_hex_digit.Tie as tie

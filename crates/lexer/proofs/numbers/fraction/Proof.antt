@@ -27,11 +27,11 @@ exponent-of-requires c κs = search needs
 returns-2 : tie.Need-returns-2
 returns-2 c = search (needs, numbering)
 
-mul-t9 : tie.Need-mul-t9
-mul-t9 c = search needs
+mul-t10 : tie.Need-mul-t10
+mul-t10 c = search needs
 
-add-t10 : tie.Need-add-t10
-add-t10 c = search needs
+add-t11 : tie.Need-add-t11
+add-t11 c = search needs
 
 returns-3 : tie.Need-returns-3
 returns-3 c = search (needs, numbering)
@@ -48,6 +48,6 @@ fraction-spec =
     bump-requires-2
     exponent-of-requires
     returns-2
-    mul-t9
-    add-t10
+    mul-t10
+    add-t11
     returns-3)

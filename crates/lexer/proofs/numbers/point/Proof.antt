@@ -9,17 +9,20 @@ first-requires c κs = search needs
 is-digit-requires : tie.Need-is-digit-requires
 is-digit-requires c κs = search needs
 
-mul-t9 : tie.Need-mul-t9
-mul-t9 c = search needs
+mul-t11 : tie.Need-mul-t11
+mul-t11 c = search needs
 
-add-t10 : tie.Need-add-t10
-add-t10 c = search needs
+add-t12 : tie.Need-add-t12
+add-t12 c = search needs
 
 returns : tie.Need-returns
 returns c = search (needs, numbering)
 
 eat-decimal-digits-requires : tie.Need-eat-decimal-digits-requires
 eat-decimal-digits-requires c κs = search needs
+
+first-of-requires : tie.Need-first-of-requires
+first-of-requires c κs = search needs
 
 first-requires-2 : tie.Need-first-requires-2
 first-requires-2 c κs = search needs
@@ -36,11 +39,11 @@ exponent-of-requires c κs = search needs
 returns-2 : tie.Need-returns-2
 returns-2 c = search (needs, numbering)
 
-mul-t7 : tie.Need-mul-t7
-mul-t7 c = search needs
+mul-t9 : tie.Need-mul-t9
+mul-t9 c = search needs
 
-add-t13 : tie.Need-add-t13
-add-t13 c = search needs
+add-t15 : tie.Need-add-t15
+add-t15 c = search needs
 
 returns-3 : tie.Need-returns-3
 returns-3 c = search (needs, numbering)
@@ -51,15 +54,16 @@ point-spec =
     (tie.spec
     first-requires
     is-digit-requires
-    mul-t9
-    add-t10
+    mul-t11
+    add-t12
     returns
     eat-decimal-digits-requires
+    first-of-requires
     first-requires-2
     is-e-requires
     bump-requires
     exponent-of-requires
     returns-2
-    mul-t7
-    add-t13
+    mul-t9
+    add-t15
     returns-3)

@@ -1,44 +1,45 @@
 use Prim.Native.Nat.{_-_}
+use mathlib.Core.Bool.{true}
+use mathlib.Core.Logic.{inl, inr}
 use lib.ListN.{length}
-use Rattle.unicode.proofs.Ascii.{Going}
-use Rattle.lexer.specs.Cut.{isHexDigit, orUnderscore, met}
-use Rattle.lexer.proofs.Bytewise.{bytewise}
+use Rattle.cutters.specs.Digits.{isHexDigit}
+use Rattle.lexer.proofs.Underscores.{Reading, reading}
 use borrow.Author.Needs.{needs}
 use Rattle.lexer.proofs.cursor.Cursor.eat_hexadecimal_digits.Statement.{statement}
 use Rattle.lexer.proofs.cursor.Cursor.eat_hexadecimal_digits.Tie as tie
 
 abbrev Inv-loop : tie.InvT-loop
-Inv-loop text at₀ any₀ at any = Going (orUnderscore isHexDigit) (met isHexDigit) text at₀ any₀ at any
+Inv-loop text at₀ any₀ misplaced₀ at any misplaced = Reading isHexDigit true text at₀ any₀ misplaced₀ at any misplaced
 
 abbrev μ-loop : tie.MeasureT-loop
-μ-loop text at₀ any₀ at any = length text - at
+μ-loop text at₀ any₀ misplaced₀ at any misplaced = length text - at
 
 loop-holds : tie.Need-loop-holds Inv-loop μ-loop
-loop-holds c = search (needs, bytewise)
+loop-holds c = search (needs, reading)
 
 byte-requires : tie.Need-byte-requires Inv-loop μ-loop
-byte-requires c κs = search needs
+byte-requires c κs = search (needs, reading)
 
-is-hex-or-underscore-requires : tie.Need-is-hex-or-underscore-requires Inv-loop μ-loop
-is-hex-or-underscore-requires c κs = search needs
+first-misplaced-requires : tie.Need-first-misplaced-requires Inv-loop μ-loop
+first-misplaced-requires c κs = search (needs, reading)
+
+is-hex-digit-requires : tie.Need-is-hex-digit-requires Inv-loop μ-loop
+is-hex-digit-requires c κs = search (needs, reading)
 
 returns : tie.Need-returns Inv-loop μ-loop
-returns c = search (needs, bytewise)
-
-met-hex-requires : tie.Need-met-hex-requires Inv-loop μ-loop
-met-hex-requires c κs = search needs
+returns c = search (needs, reading)
 
 add-at : tie.Need-add-at Inv-loop μ-loop
-add-at c = search needs
+add-at c = search (needs, reading)
 
 loop-less : tie.Need-loop-less Inv-loop μ-loop
-loop-less c = search needs
+loop-less c = search (needs, reading)
 
 loop-again : tie.Need-loop-again Inv-loop μ-loop
-loop-again c = search (needs, bytewise)
+loop-again c = elim (c .if1 .came) [ inl x ↦ search (needs, reading) | inr y ↦ search (needs, reading) ]
 
 returns-2 : tie.Need-returns-2 Inv-loop μ-loop
-returns-2 c = search (needs, bytewise)
+returns-2 c = search (needs, reading)
 
 pub eat-hexadecimal-digits-spec : {M : Type 1} → statement M
 eat-hexadecimal-digits-spec =
@@ -48,9 +49,9 @@ eat-hexadecimal-digits-spec =
     μ-loop
     loop-holds
     byte-requires
-    is-hex-or-underscore-requires
+    first-misplaced-requires
+    is-hex-digit-requires
     returns
-    met-hex-requires
     add-at
     loop-less
     loop-again

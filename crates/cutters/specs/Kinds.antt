@@ -1,6 +1,6 @@
 -- The numbers of the kinds of tokens, in one place.
 -- Assumes nothing.
-use mathlib.Core.Bool.{Bool, cond, not, _&&_}
+use mathlib.Core.Bool.{Bool, cond, not, _&&_, _||_}
 use mathlib.Core.List.{List, [], _∷_}
 use Prim.Native.Nat.{ℕ, _+_, _*_}
 use lib.Dec.{eqb, leb}
@@ -45,6 +45,10 @@ dollar = 24
 abbrev pub slashMark : ℕ
 slashMark = 34
 
+-- a hardware identifier, or the dollar sign alone
+abbrev pub isWire : ℕ → Bool
+isWire k = eqb k hardwareIdent || eqb k dollar
+
 -- the single marks ; , . ( ) { } [ ] ~ ? : = ! < > - & | + * ^ % and their kinds
 unfoldable pub marks : List (ℕ × ℕ)
 marks =
@@ -86,6 +90,9 @@ int base empty = 40 + 2 * base + cond empty 1 0
 
 abbrev pub float : ℕ → Bool → ℕ
 float base emptyExponent = 48 + 2 * base + cond emptyExponent 1 0
+
+abbrev pub isNumber : ℕ → Bool
+isNumber k = leb 40 k && leb k 55
 
 abbrev pub str : Bool → ℕ
 str terminated = 56 + cond terminated 1 0
