@@ -2,3 +2,5 @@ pub mod Records
 pub mod Cutter
 pub mod Starts
 pub mod Underscores
+pub mod Told
+pub mod Exactly

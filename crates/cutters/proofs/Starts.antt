@@ -76,7 +76,7 @@ flat-part s at ts x i n y h j k =
     List·getD-append F y 0 j l ∙ sym a ∙ ap (λ (w : List ℕ). getD w j 0) (sym b) ∙ getD-drop (recordWords * i) (flatFrom s at ts ++ x) j 0
 
 -- so record i is the words of token i, which starts there
-flat-record : (s : List ℕ) (at : ℕ) (ts : List Token) (x : List ℕ) (d : Token) (i : ℕ) → i < length ts →
+pub flat-record : (s : List ℕ) (at : ℕ) (ts : List Token) (x : List ℕ) (d : Token) (i : ℕ) → i < length ts →
     drop (recordWords * i) (flatFrom s at ts ++ x) ≡ wordsOf s (at + total (take i ts)) (getD ts i d) ++ (flatFrom s (at + total (take i ts) + getD ts i d .len) (drop (suc i) ts) ++ x)
 unfolding flatFrom
 flat-record s at ts x d i h = flat-drop s at ts x i (omega (arith, h)) ∙ rw (drop-cons ts i d h)

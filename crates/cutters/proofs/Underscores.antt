@@ -10,7 +10,7 @@ use mathlib.Core.List.{List}
 use lib.ListN.{length, take, drop, getD, length-take, List·getD-eq-default}
 use lib.Seq.{getD-take, getD-drop}
 use lib.Dec.{eqb}
-use borrow.Author.Tests.{eq-eqb, ne-eqb}
+use borrow.Author.Tests.{ne-eqb}
 use Rattle.lists.proofs.Bools.{by-test, on-cond}
 use Rattle.cutters.specs.Kinds.{isNumber, isWire}
 use Rattle.cutters.specs.Digits.{isDigit, isHexDigit, digitBy}
@@ -56,12 +56,15 @@ in-point s at zero h = refl
 in-point s at (suc n) h = rw h
 
 -- of a token
+pub read-least : (kind suffix : ℕ) (b : List ℕ) → length (readBytes kind suffix b) ≤ length b
+read-least kind suffix b =
+    on-cond (λ (l : List ℕ). length l ≤ length b) (isNumber kind) (omega (arith, length-take suffix b)) (on-cond (λ (l : List ℕ). length l ≤ length b) (isWire kind) (omega arith) (omega arith))
+
 pub found-least : (kind suffix : ℕ) (b : List ℕ) → misplacedOf kind suffix b ≤ length b
 unfolding misplacedOf
 found-least kind suffix b =
     let r = readBytes kind suffix b in
-    let n : length r ≤ length b = on-cond (λ (l : List ℕ). length l ≤ length b) (isNumber kind) (omega (arith, length-take suffix b)) (on-cond (λ (l : List ℕ). length l ≤ length b) (isWire kind) (omega arith) (omega arith)) in
-    elim (in-low (hexFirst r) r 0 (length r)) [ inl z ↦ omega (arith, z) | inr l ↦ omega (arith, l .1) ]
+    elim (in-low (hexFirst r) r 0 (length r)) [ inl z ↦ omega (arith, z) | inr l ↦ omega (arith, l .1, read-least kind suffix b) ]
 
 -- a token with no run has none
 pub found-no : (kind suffix : ℕ) (b : List ℕ) → isNumber kind ≡ false → isWire kind ≡ false → misplacedOf kind suffix b ≡ 0
@@ -71,9 +74,6 @@ found-no kind suffix b n w = rw (n, w)
 -- ---- the digits stay the same ones over some bytes: there is no point among them, or they are decimal
 abbrev pub Stays : Bool → List ℕ → ℕ → ℕ → Type 0
 Stays hex s at n = (k : ℕ) → at ≤ k → k < at + n → (hex && not (eqb (getD s k 0) 0x2E)) ≡ hex
-
-pub stays-decimal : (s : List ℕ) (at n : ℕ) → Stays false s at n
-stays-decimal s at n k a b = refl
 
 module _ (hex : Bool) (s : List ℕ) where
   stays-on : (at n : ℕ) → Stays hex s at (suc n) → Stays hex s (suc at) n

@@ -5,3 +5,5 @@ pub mod Records
 pub mod Cutter
 pub mod Starts
 pub mod Steps
+pub mod Told
+pub mod First

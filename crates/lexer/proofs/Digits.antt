@@ -4,12 +4,12 @@ use Prim.Native.Nat.{ℕ, _+_, _-_, _*_, _≤_, _<_}
 use native.Mathlib.Decide.{decLt}
 use native.Mathlib.Omega.{arith}
 use mathlib.Core.Path.{_≡_, refl, ap, sym, _∙_}
-use mathlib.Core.Bool.{Bool, true, false, not, _&&_, _||_, false≢true}
+use mathlib.Core.Bool.{Bool, true, false, not, _||_, false≢true}
 use mathlib.Core.List.{List, tail}
 use lib.ListN.{length, drop, getD, length-drop}
 use lib.Dec.{eqb}
 use borrow.Author.Tests.{eq-eqb, ne-eqb, eqb-true, not-true, not-false}
-use Rattle.lists.proofs.Bools.{by-test, and-false}
+use Rattle.lists.proofs.Bools.{by-test}
 use Rattle.unicode.specs.Steps.{Place, Ate}
 use Rattle.unicode.specs.Text.{byteLength, left, skip}
 use Rattle.unicode.proofs.Text.{from-place, bytes-chars}

@@ -1,10 +1,10 @@
 -- The first misplaced underscore of a token, by its kind, its suffix start and its own bytes.
 -- Assumes nothing.
-use Prim.Native.Nat.{ℕ, zero, suc, _+_, _-_, _≤_, _<_}
+use Prim.Native.Nat.{ℕ, suc, _+_, _-_, _≤_, _<_}
 use native.Mathlib.Decide.{decLt}
 use native.Mathlib.Omega.{arith}
 use mathlib.Core.Path.{_≡_, refl, ap, sym, _∙_}
-use mathlib.Core.Bool.{Bool, true, false, not, cond, _&&_, _||_}
+use mathlib.Core.Bool.{Bool, true, false, not, cond, _&&_}
 use mathlib.Core.List.{List, _∷_, tail}
 use lib.ListN.{length, take, drop, getD, length-take, length-drop}
 use lib.Seq.{take-take}
@@ -13,13 +13,12 @@ use borrow.Author.Tests.{ne-eqb, eqb-true, leb-true}
 use Rattle.lists.proofs.Bools.{by-test, on-cond, both, and-true}
 use Rattle.lists.specs.All.{all}
 use Rattle.unicode.specs.Text.{left, skip}
-use Rattle.unicode.specs.Steps.{Place}
-use Rattle.cutters.specs.Kinds.{hardwareIdent, dollar, isWire, isNumber, str, bitStr}
+use Rattle.cutters.specs.Kinds.{hardwareIdent, dollar, isWire, isNumber, bitStr}
 use Rattle.cutters.specs.Digits.{peek, isDigit}
 use Rattle.cutters.specs.Underscores.{misplacedIn, hexFirst, misplacedOf}
 use Rattle.cutters.proofs.Underscores.{found-no, byte-own, in-other}
 use Rattle.lexer.specs.Cut.{Quote, slash, block, pound, agree, pragmaWord, name, word, wideEmoji, annotated, quoteKind, isBit, withoutLf, twice}
-use Rattle.lexer.specs.Steps.{Parted, Stands, Misplaced, Wired, NumberAt, hexBehind}
+use Rattle.lexer.specs.Steps.{Stands, Wired, NumberAt, hexBehind}
 use Rattle.lexer.proofs.Underscores.{peek-byte, passed}
 use Rattle.lexer.proofs.Numerals.{number-kind, own-decimal}
 

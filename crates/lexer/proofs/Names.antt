@@ -16,7 +16,7 @@ use Rattle.unicode.specs.Steps.{Place}
 use Rattle.unicode.proofs.Text.{decoded-point, left-end, from-place, skip-nil, skip-stop}
 use Rattle.unicode.proofs.Ascii.{ascii-decoded}
 use Rattle.cutters.specs.Digits.{peek, isDigit}
-use Rattle.lexer.specs.Cut.{notLf, orUnderscore, met, digits, agree, pragmaWord, pound, wideEmoji, goesOn, name, word, annotated, hardware}
+use Rattle.lexer.specs.Cut.{notLf, digits, agree, pragmaWord, pound, wideEmoji, goesOn, name, word, annotated, hardware}
 use Rattle.cutters.specs.Kinds.{ident, hardwareIdent, invalidIdent, pragma, annotation, atSign, dollar, isWire}
 use Rattle.lexer.specs.Unicode.{startIn, moreIn, emojiIn}
 use Rattle.lexer.specs.Steps.{Parted, Agreed, Ran, Run, Wired}

@@ -1,13 +1,13 @@
 -- Where a number ends, and its first misplaced underscore in its own bytes.
 -- Assumes nothing.
-use Prim.Native.Nat.{ℕ, suc, _+_, _-_, _*_, _≤_, _<_}
+use Prim.Native.Nat.{ℕ, suc, _+_, _-_, _≤_, _<_}
 use native.Mathlib.Decide.{decLt}
 use native.Mathlib.Omega.{arith}
 use mathlib.Core.Path.{_≡_, refl, ap, sym, _∙_}
 use mathlib.Core.Bool.{Bool, true, false, not, cond, _&&_, _||_, false≢true}
 use mathlib.Core.Logic.{_⊎_, inl, inr}
 use mathlib.Core.List.{List, [], _∷_, tail}
-use lib.ListN.{length, take, drop, getD}
+use lib.ListN.{take, drop, getD}
 use lib.Dec.{eqb, leb}
 use borrow.Author.Tests.{ne-eqb, le-leb, lt-leb}
 use Rattle.lists.specs.Eat.{eat}
@@ -15,7 +15,7 @@ use Rattle.lists.proofs.Bools.{by-test, on-cond, and-false}
 use Rattle.lists.proofs.Eat.{eat-nil, eat-more, eat-stop}
 use Rattle.unicode.specs.Text.{left}
 use Rattle.cutters.specs.Kinds.{isNumber, int, float}
-use Rattle.cutters.specs.Digits.{peek, isDigit, isHexDigit, digitBy}
+use Rattle.cutters.specs.Digits.{peek, isDigit, isHexDigit}
 use Rattle.cutters.specs.Underscores.{misplacedIn}
 use Rattle.cutters.specs.Steps.{firstOf}
 use Rattle.cutters.proofs.Underscores.{Stays, byte-own, in-low, in-join, in-point, in-own}

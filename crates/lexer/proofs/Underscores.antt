@@ -11,7 +11,7 @@ use lib.ListN.{length, drop, getD, length-drop, List·getD-eq-default}
 use lib.Dec.{eqb}
 use borrow.Author.Tests.{eq-eqb, ne-eqb, eqb-true, lt-leb, not-true, not-false}
 use Rattle.lists.proofs.Bools.{by-test, and-false, or-false, or-true}
-use Rattle.unicode.specs.Steps.{Place, Ate}
+use Rattle.unicode.specs.Steps.{Place}
 use Rattle.unicode.specs.Text.{byteLength, left}
 use Rattle.unicode.proofs.Text.{decoded-point, bytes-chars}
 use Rattle.unicode.proofs.Ascii.{Going, going-none, going-on, going-halt, going-end, ascii-decoded}

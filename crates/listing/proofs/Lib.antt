@@ -1,3 +1,4 @@
 pub mod Whole
 pub mod Unique
 pub mod Starts
+pub mod Told

@@ -30,11 +30,11 @@ run-starts {u} {profile} {s} {list} {from = from} r =
 
 module _ {s list list′ : List ℕ} {profile number also : ℕ} (l : Listed s profile list number also list′) (z : number ≡ done) where
   -- what a call that is done has said and written
-  told : (checkCut s profile .0 ≡ done) × (length (tokensOf profile s) ≤ length list / recordWords) × (also ≡ length (tokensOf profile s))
+  pub told : (checkCut s profile .0 ≡ done) × (length (tokensOf profile s) ≤ length list / recordWords) × (also ≡ length (tokensOf profile s))
   unfolding answerOf
   told = was-done (checkCut s profile) (length list / recordWords) (length (tokensOf profile s)) (l .answer) z
 
-  written : list′ ≡ over (flatFrom s 0 (tokensOf profile s)) list
+  pub written : list′ ≡ over (flatFrom s 0 (tokensOf profile s)) list
   unfolding listed
   written = l .words ∙ rw (eq-eqb _ _ (sym (l .answer .number-is) ∙ z))
 

@@ -1,4 +1,4 @@
--- One outcome of `tokenize_rows`, the same list as `tokenize` gives in flat words, and where its records start.
+-- One outcome of `tokenize_rows`, the same list as `tokenize` gives in flat words, where its records start, and what their fifth words say.
 -- Assumes nothing.
 use Prim.Native.Nat.{ℕ, zero, suc, _+_, _*_, _/_, _≤_, _<_}
 use native.Mathlib.Omega.{arith}
@@ -15,11 +15,14 @@ use Rattle.text.proofs.Room.{was-done}
 use Rattle.cutters.specs.Records as definitions
 use Rattle.cutters.specs.Records.{recordWords, wordsOf, flatFrom}
 use Rattle.cutters.specs.Starts.{Starts}
+use Rattle.cutters.specs.Told.{Told}
 use Rattle.cutters.proofs.Starts.{starts-same}
+use Rattle.cutters.proofs.Told.{told-same}
 use Rattle.lexer.specs.Promises.{tokensOf}
 use Rattle.listing.specs.Promises.{answerOf, listed, Listed}
 use Rattle.listing.proofs.Unique.{listed-unique}
 use Rattle.listing.proofs.Starts.{list-starts}
+use Rattle.listing.proofs.Told.{list-told}
 use Rattle.rows.specs.Rows.{records, fields, words, rowed, Rowed}
 use Rattle.rows.specs.declared.Token.{Token}
 use Rattle.rows.proofs.Filling.{length-records}
@@ -78,15 +81,29 @@ pub same-as-flat : {s : List ℕ} {profile : ℕ} {row row′ : List Token} {num
     (number ≡ n) × (also ≡ a) × (words row′ ≡ list′)
 same-as-flat p q = listed-unique (as-flat p) q
 
--- ---- WHERE RECORDS START: each starts behind all before it, the first at 0, and the last ends where the text does; whatever `d` a reader takes for a record past the row
-pub row-starts : {s : List ℕ} {profile : ℕ} {row row′ : List Token} {number also : ℕ} (d : Token) → Rowed s profile row number also row′ → number ≡ done →
-    Starts (λ i. getD row′ i d .start) (λ i. getD row′ i d .len) 0 also (length s)
-unfolding answerOf rowed
-row-starts {s} {profile} {row} {row′} {also = also} d p z =
-    let ts = tokensOf profile s in
-    let w = was-done (checkCut s profile) (recordWords * length row / recordWords) (length ts) (p .answer) z in
-    let e : row′ ≡ over (records s 0 ts) row = p .row-is ∙ rw (eq-eqb _ _ (sym (p .answer .number-is) ∙ z)) in
-    let n : also ≤ length row′ = omega (arith, w .2, ap length e, length-append (records s 0 ts) (drop (length (records s 0 ts)) row), length-records s 0 ts) in
-    let word : (i k : ℕ) → i < also → getD (words row′) (recordWords * i + k) 0 ≡ getD (fields (getD row′ i d) ++ drop (recordWords * suc i) (words row′)) k 0 =
-    λ i k h. sym (getD-drop (recordWords * i) (words row′) k 0) ∙ ap (λ (l : List ℕ). getD l k 0) (record-words i row′ d (omega (arith, h, n))) in
-    starts-same (λ i h. sym (word i 3 h)) (λ i h. sym (word i 1 h)) (list-starts (as-flat p) z)
+-- ---- what a call that is done leaves, record by record; whatever `d` a reader takes for a record past the row
+module _ {s : List ℕ} {profile : ℕ} {row row′ : List Token} {number also : ℕ} (d : Token) (p : Rowed s profile row number also row′) (z : number ≡ done) where
+  long : also ≤ length row′
+  unfolding answerOf rowed
+  long =
+      let ts = tokensOf profile s in
+      let w = was-done (checkCut s profile) (recordWords * length row / recordWords) (length ts) (p .answer) z in
+      let e : row′ ≡ over (records s 0 ts) row = p .row-is ∙ rw (eq-eqb _ _ (sym (p .answer .number-is) ∙ z)) in
+      omega (arith, w .2, ap length e, length-append (records s 0 ts) (drop (length (records s 0 ts)) row), length-records s 0 ts)
+
+  -- field k of record i, and word k of it in the row's words
+  word : (i k : ℕ) → i < also → getD (fields (getD row′ i d) ++ drop (recordWords * suc i) (words row′)) k 0 ≡ getD (words row′) (recordWords * i + k) 0
+  word i k h = sym (sym (getD-drop (recordWords * i) (words row′) k 0) ∙ ap (λ (l : List ℕ). getD l k 0) (record-words i row′ d (omega (arith, h, long))))
+
+  -- ---- WHERE RECORDS START: each starts behind all before it, the first at 0, and the last ends where the text does
+  pub row-starts : Starts (λ i. getD row′ i d .start) (λ i. getD row′ i d .len) 0 also (length s)
+  row-starts = starts-same (λ i h. word i 3 h) (λ i h. word i 1 h) (list-starts (as-flat p) z)
+
+  -- ---- WHAT THE FIFTH WORDS SAY: each is told by its own record and the bytes where that stands
+  pub row-told : Told s (λ i. getD row′ i d .kind) (λ i. getD row′ i d .len) (λ i. getD row′ i d .suffix) (λ i. getD row′ i d .start) (λ i. getD row′ i d .misplaced) also
+  row-told =
+      told-same
+      (λ i h.
+      let e : recordWords * i + 0 ≡ recordWords * i = omega arith in
+      (word i 0 h ∙ ap (λ (k : ℕ). getD (words row′) k 0) e, word i 1 h, word i 2 h, word i 3 h, word i 4 h))
+      (list-told (as-flat p) z)

@@ -21,7 +21,7 @@ use Rattle.cutters.specs.Records.{recordWords}
 use Rattle.cutters.specs.Kinds.{marks, markIn}
 use Rattle.cutters.specs.Digits.{isDigit}
 use Rattle.cutters.specs.Underscores.{misplacedIn, misplacedOf}
-use Rattle.lexer.specs.Cut.{advance, nextToken, tokens}
+use Rattle.lexer.specs.Cut.{digits, fraction, number, isUnit, identifier, numberSuffix, advance, nextToken, tokens}
 use Rattle.lexer.specs.Unicode.{unicode}
 use Rattle.lexer.specs.Promises.{tokens3, tokensOf}
 use Rattle.listing.specs.Promises.{answerOf}
@@ -44,6 +44,10 @@ spaces-leave : rowed (0x20 ∷ 0x20 ∷ semicolon) 0 (seven ∷ seven ∷ []) �
 unfolding all pieces cut eat inTable xidStart xidContinue emoji table behind begins joined readBy first next chars width bytesBefore validUpTo byteLength skip checkText unmarked unmarkedUpTo checkMarks checkCut whitespace marks markIn unicode tokens3 tokensOf answerOf isDigit advance nextToken tokens records rowed misplacedOf misplacedIn
 spaces-leave = refl
 
+underscores-leave : rowed (0x3B ∷ 0x31 ∷ 0x5F ∷ 0x5F ∷ 0x32 ∷ []) 0 (seven ∷ seven ∷ []) ≡ record { kind = 10; len = 1; suffix = 0; start = 0; misplaced = 0 } ∷ record { kind = 44; len = 4; suffix = 4; start = 1; misplaced = 1 } ∷ []
+unfolding all pieces cut eat inTable xidStart xidContinue emoji table behind begins joined readBy first next chars width bytesBefore validUpTo byteLength skip checkText unmarked unmarkedUpTo checkMarks checkCut whitespace marks markIn unicode tokens3 tokensOf answerOf isDigit digits fraction number isUnit identifier numberSuffix advance nextToken tokens records rowed misplacedOf misplacedIn
+underscores-leave = refl
+
 -- nothing written
 pub rules-out-writing-nothing : {n a : ℕ} → Rowed semicolon 0 (seven ∷ seven ∷ []) n a (seven ∷ seven ∷ []) → ⊥
 rules-out-writing-nothing p = let e : _≡_ {A = ℕ} 7 10 = ap (λ (x : List Token). getD x 0 seven .kind) (p .row-is ∙ leaves) in omega arith
@@ -51,6 +55,10 @@ rules-out-writing-nothing p = let e : _≡_ {A = ℕ} 7 10 = ap (λ (x : List To
 -- every record starts at 0, or where its token ends, or at its own number
 pub rules-out-other-starts : {n a : ℕ} {l : List Token} → Rowed (0x20 ∷ 0x20 ∷ semicolon) 0 (seven ∷ seven ∷ []) n a l → (getD l 0 seven .start ≡ 0) × (getD l 1 seven .start ≡ 2)
 rules-out-other-starts p = (ap (λ (x : List Token). getD x 0 seven .start) (p .row-is ∙ spaces-leave), ap (λ (x : List Token). getD x 1 seven .start) (p .row-is ∙ spaces-leave))
+
+-- no underscore told, the last one told, or its place in the text, of 1__2 behind a semicolon: it is the first one's, in its token
+pub rules-out-other-underscores : {n a : ℕ} {l : List Token} → Rowed (0x3B ∷ 0x31 ∷ 0x5F ∷ 0x5F ∷ 0x32 ∷ []) 0 (seven ∷ seven ∷ []) n a l → getD l 1 seven .misplaced ≡ 1
+rules-out-other-underscores p = ap (λ (x : List Token). getD x 1 seven .misplaced) (p .row-is ∙ underscores-leave)
 
 -- a record more than there are tokens
 pub rules-out-one-more : {n a : ℕ} {t : Token} → Rowed semicolon 0 (seven ∷ seven ∷ []) n a (record { kind = 10; len = 1; suffix = 0; start = 0; misplaced = 0 } ∷ t ∷ []) → t ≡ seven
