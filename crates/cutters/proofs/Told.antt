@@ -12,27 +12,22 @@ use Rattle.cutters.specs.Told.{Told, kindWord, suffixWord, misplacedWord
 use Rattle.cutters.proofs.Starts.{flat-record}
 
 -- ---- the words of a flat list
-pub flat-told : (s : List ℕ) (at : ℕ) (ts : List Token) (x : List ℕ) →
-    let list = flatFrom s at ts ++ x in
-    Told s (kindWord list) (lengthWord list) (suffixWord list) (startWord list) (misplacedWord list) (length ts)
-flat-told s at ts x =
-    record {
-      each = λ i h.
-          let t = getD ts i none in
-          let from = at + total (take i ts) in
-          let z : recordWords * i + 0 ≡ recordWords * i = omega arith in
-          let k : kindWord list i ≡ t .kind = ap (λ (j : ℕ). getD list j 0) (sym z) ∙ word i h 0 in
-          word i h 4 ∙ rw (k, word i h 2, word i h 1, word i h 3);
-    }
-  where
-    none : Token
-    none = record { kind = 0; len = 0; suffix = 0 }
+module _ (s : List ℕ) (at : ℕ) (ts : List Token) (x : List ℕ) where
+  abbrev list : List ℕ
+  list = flatFrom s at ts ++ x
 
-    list : List ℕ
-    list = flatFrom s at ts ++ x
+  word : (d : Token) (i : ℕ) → i < length ts → (j : ℕ) → getD list (recordWords * i + j) 0 ≡ getD (wordsOf s (at + total (take i ts)) (getD ts i d) ++ (flatFrom s (at + total (take i ts) + getD ts i d .len) (drop (suc i) ts) ++ x)) j 0
+  word d i h j = sym (getD-drop (recordWords * i) list j 0) ∙ ap (λ (w : List ℕ). getD w j 0) (flat-record s at ts x d i h)
 
-    word : (i : ℕ) → i < length ts → (j : ℕ) → getD list (recordWords * i + j) 0 ≡ getD (wordsOf s (at + total (take i ts)) (getD ts i none) ++ (flatFrom s (at + total (take i ts) + getD ts i none .len) (drop (suc i) ts) ++ x)) j 0
-    word i h j = sym (getD-drop (recordWords * i) list j 0) ∙ ap (λ (w : List ℕ). getD w j 0) (flat-record s at ts x none i h)
+  pub flat-kind : (d : Token) (i : ℕ) → i < length ts → kindWord list i ≡ getD ts i d .kind
+  flat-kind d i h =
+      let z : recordWords * i + 0 ≡ recordWords * i = omega arith in
+      ap (λ (j : ℕ). getD list j 0) (sym z) ∙ word d i h 0
+
+  pub flat-told : Told s (kindWord list) (lengthWord list) (suffixWord list) (startWord list) (misplacedWord list) (length ts)
+  flat-told =
+      let d : Token = record { kind = 0; len = 0; suffix = 0 } in
+      record { each = λ i h. word d i h 4 ∙ rw (flat-kind d i h, word d i h 2, word d i h 1, word d i h 3) }
 
 -- ---- SAME KIND, SUFFIX START AND BYTES, SAME WORD: wherever the two records stand, and in whatever texts
 module _ {s s′ : List ℕ} {kind len suffix start misplaced kind′ len′ suffix′ start′ misplaced′ : ℕ → ℕ} {count count′ : ℕ} where

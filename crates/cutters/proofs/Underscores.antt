@@ -7,7 +7,7 @@ use mathlib.Core.Path.{_≡_, refl, ap, sym, _∙_}
 use mathlib.Core.Bool.{Bool, true, false, not, _&&_}
 use mathlib.Core.Logic.{_⊎_, inl, inr}
 use mathlib.Core.List.{List}
-use lib.ListN.{length, take, drop, getD, length-take, List·getD-eq-default}
+use lib.ListN.{length, take, drop, getD, length-take, length-drop, List·getD-eq-default}
 use lib.Seq.{getD-take, getD-drop}
 use lib.Dec.{eqb}
 use borrow.Author.Tests.{ne-eqb}
@@ -16,6 +16,7 @@ use Rattle.cutters.specs.Kinds.{isNumber, isWire}
 use Rattle.cutters.specs.Digits.{isDigit, isHexDigit, digitBy}
 use Rattle.cutters.specs.Underscores.{before, misplaced, misplacedIn, readBytes, hexFirst, misplacedOf}
 use Rattle.cutters.specs.Steps.{firstOf}
+use Rattle.cutters.specs.Records.{Token, bytesOf, misplacedAt}
 
 -- ---- one byte
 module _ (hex : Bool) (s : List ℕ) (at n : ℕ) where
@@ -56,15 +57,19 @@ in-point s at zero h = refl
 in-point s at (suc n) h = rw h
 
 -- of a token
-pub read-least : (kind suffix : ℕ) (b : List ℕ) → length (readBytes kind suffix b) ≤ length b
-read-least kind suffix b =
+pub read-most : (kind suffix : ℕ) (b : List ℕ) → length (readBytes kind suffix b) ≤ length b
+read-most kind suffix b =
     on-cond (λ (l : List ℕ). length l ≤ length b) (isNumber kind) (omega (arith, length-take suffix b)) (on-cond (λ (l : List ℕ). length l ≤ length b) (isWire kind) (omega arith) (omega arith))
 
-pub found-least : (kind suffix : ℕ) (b : List ℕ) → misplacedOf kind suffix b ≤ length b
+pub found-most : (kind suffix : ℕ) (b : List ℕ) → misplacedOf kind suffix b ≤ length b
 unfolding misplacedOf
-found-least kind suffix b =
+found-most kind suffix b =
     let r = readBytes kind suffix b in
-    elim (in-low (hexFirst r) r 0 (length r)) [ inl z ↦ omega (arith, z) | inr l ↦ omega (arith, l .1, read-least kind suffix b) ]
+    elim (in-low (hexFirst r) r 0 (length r)) [ inl z ↦ omega (arith, z) | inr l ↦ omega (arith, l .1, read-most kind suffix b) ]
+
+-- of a token in a text
+pub word-most : (s : List ℕ) (at : ℕ) (t : Token) → misplacedAt s at t ≤ length s
+word-most s at t = omega (arith, found-most (t .kind) (t .suffix) (bytesOf s at t), length-take (t .len) (drop at s), length-drop at s)
 
 -- a token with no run has none
 pub found-no : (kind suffix : ℕ) (b : List ℕ) → isNumber kind ≡ false → isWire kind ≡ false → misplacedOf kind suffix b ≡ 0

@@ -45,7 +45,7 @@ dollar = 24
 abbrev pub slashMark : ℕ
 slashMark = 34
 
--- a hardware identifier, or the dollar sign alone
+-- a hardware identifier or a Dollar
 abbrev pub isWire : ℕ → Bool
 isWire k = eqb k hardwareIdent || eqb k dollar
 

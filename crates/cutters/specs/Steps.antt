@@ -1,4 +1,4 @@
--- What the code's own functions answer.
+-- What the laws and the cutters' own functions say of places.
 -- Assumes nothing.
 use Prim.Native.Nat.{ℕ}
 use mathlib.Core.Bool.{cond}

@@ -1,7 +1,8 @@
--- MISPLACED UNDERSCORES: the fifth word of a record. A run is what one digit reader takes: digits and underscores. A number's integer run starts at its first
--- digit, or after 0b, 0o or 0x; a run may follow behind its point, and one behind its e and the sign. A hardware identifier and a Dollar have one run, behind
--- the $. An underscore is misplaced unless both its neighbours within its run are digits that the run's reader takes. What stands next to a run is no such
--- digit, so its neighbours are looked at wherever they stand.
+-- MISPLACED UNDERSCORES: the fifth word of a record. A run is digits and underscores side by side, as one digit reader takes them. A number's integer run
+-- starts at its first digit, or after 0b, 0o or 0x; a run may stand behind its point, and one behind its e and the sign. A hardware identifier and a Dollar have
+-- one, behind the $. An underscore is misplaced unless both its neighbours within the run are digits that the reader takes. Before a run stands nothing, a b, o
+-- or x, a point, an e, a sign or $, and behind it what ended it: none is a digit that the reader takes, and no underscore stands outside of a run. So it is enough
+-- to look at each underscore and at the bytes on both sides of it.
 -- Assumes nothing.
 use mathlib.Core.Bool.{Bool, not, cond, _&&_}
 use mathlib.Core.List.{List, []}
@@ -27,7 +28,7 @@ misplacedIn hex s at (suc n) =
     cond (misplaced (digitBy hex) s at) at (misplacedIn (hex && not (eqb (getD s at 0) 0x2E)) s (suc at) n)
 
 -- ---- of a token, by its kind, its suffix start and its own bytes
--- the bytes with its runs: of a number those before its suffix, of a hardware identifier or a Dollar all
+-- the bytes with its runs: of a number those before its suffix, of a hardware identifier or a Dollar all, of all else none
 abbrev pub readBytes : ℕ → ℕ → List ℕ → List ℕ
 readBytes kind suffix b =
     cond (isNumber kind) (take suffix b)

@@ -94,7 +94,7 @@ module _ (start more emoji : List ℕ) (profile : ℕ) {s : List ℕ} {at c next
       cuts (lent start more emoji) profile v (record { kind = n .0; fromSuffix = n .1; rest = numberSuffix (startIn start) (moreIn more) (n .1) }) (rw (y .no-slash, y .no-space, y .no-name, h)) (q .what)
       (behind (lent start more emoji) profile v (q .place)) (from-place (q .place) (p .place) (ap (numberSuffix (startIn start) (moreIn more)) (q .place .there))) (number-found v h p)
 
-  pub cut-string : {kind suffixAt found end : ℕ} → c ≡ 0x22 → StringAt (startIn start) (moreIn more) s at next kind suffixAt found end → Cuts (lent start more emoji) profile s at kind suffixAt found end
+  pub cut-string : {kind suffixAt found end : ℕ} → c ≡ 0x22 → StringAt (startIn start) (moreIn more) s next kind suffixAt found end → Cuts (lent start more emoji) profile s at kind suffixAt found end
   unfolding advance whitespace inTable testedIn asciiStart isDigit marks markIn
   cut-string {suffixAt = suffixAt} {end = end} e p =
       let q = quoted (left s next) in
@@ -111,7 +111,7 @@ module _ (start more emoji : List ℕ) (profile : ℕ) {s : List ℕ} {at c next
   unfolding advance whitespace inTable testedIn asciiStart isDigit
   cut-annotated e p = part (lent start more emoji) profile v (rw e) (annotated-unread (startIn start) (left s next)) p
 
-  pub cut-hardware : {kind found end : ℕ} → c ≡ 0x24 → Parted (hardware (moreIn more) (emojiIn emoji)) s next kind end → Wired s next kind end found → Cuts (lent start more emoji) profile s at kind at (found - at) end
+  pub cut-hardware : {kind found end : ℕ} → c ≡ 0x24 → Parted (hardware (moreIn more) (emojiIn emoji)) s next kind end → Wired s next kind found end → Cuts (lent start more emoji) profile s at kind at (found - at) end
   unfolding advance whitespace inTable testedIn asciiStart isDigit
   cut-hardware e p w =
       let x = hardware (moreIn more) (emojiIn emoji) (left s next) in
@@ -139,19 +139,19 @@ pub told : {u : Letters} {profile : ℕ} {s : List ℕ} {at kind found end kind�
 told p q = rw (p .kind-is, p .suffix-is, p .found-is, p .end-is) q
 
 -- ---- literals behind their first character
-module _ (start more : ℕ → Bool) {s : List ℕ} {own at kind suffixAt found : ℕ} where
-  pub string-closed : {b : Bool} {end : ℕ} → Quoted s at b kind suffixAt → b ≡ true → Place s suffixAt end (identifier start more (left s suffixAt)) → found ≡ 0 → StringAt start more s own at kind suffixAt found end
+module _ (start more : ℕ → Bool) {s : List ℕ} {at kind suffixAt found : ℕ} where
+  pub string-closed : {b : Bool} {end : ℕ} → Quoted s at b kind suffixAt → b ≡ true → Place s suffixAt end (identifier start more (left s suffixAt)) → found ≡ 0 → StringAt start more s at kind suffixAt found end
   string-closed q t p z = record { what = q .what; none = z; begin = q .place; place = rw (sym (q .flag) ∙ t) p }
 
-  pub string-open : {b : Bool} → Quoted s at b kind suffixAt → b ≡ false → found ≡ 0 → StringAt start more s own at kind suffixAt found suffixAt
+  pub string-open : {b : Bool} → Quoted s at b kind suffixAt → b ≡ false → found ≡ 0 → StringAt start more s at kind suffixAt found suffixAt
   string-open q t z =
       record { what = q .what; none = z; begin = q .place; place = rw (sym (q .flag) ∙ t) (record { after = omega arith; within = q .place .within; there = refl }) }
 
-  pub number-at : {c n end : ℕ} → Numbered c s at kind n suffixAt → found ≡ n - own → Place s suffixAt end (numberSuffix start more (left s suffixAt)) → NumberAt start more c s own at kind suffixAt found end
-  number-at m f p = record { what = m .part; first = λ e. f ∙ m .first own e; place = p }
+  pub number-at : {own c n end : ℕ} → Numbered c s at kind n suffixAt → found ≡ n - own → Place s suffixAt end (numberSuffix start more (left s suffixAt)) → NumberAt start more c s own at kind suffixAt found end
+  number-at {own} m f p = record { what = m .part; first = λ e. f ∙ m .first own e; place = p }
 
-  module _ {c end : ℕ} where
-    pub literal-string : c ≡ 0x22 → StringAt start more s own at kind suffixAt found end → LiteralAt start more c s own at kind suffixAt found end
+  module _ {own c end : ℕ} where
+    pub literal-string : c ≡ 0x22 → StringAt start more s at kind suffixAt found end → LiteralAt start more c s own at kind suffixAt found end
     literal-string e p = record { string = λ h. p; number = λ n. absurd (n e) }
 
     pub literal-number : (c ≡ 0x22 → ⊥) → NumberAt start more c s own at kind suffixAt found end → LiteralAt start more c s own at kind suffixAt found end

@@ -1,6 +1,6 @@
 -- Numbers and their suffixes, as `search` takes the laws.
 -- Assumes nothing.
-use Prim.Native.Nat.{ℕ, _+_, _-_, _*_, _≤_, _<_}
+use Prim.Native.Nat.{ℕ, _+_, _*_, _≤_, _<_}
 use native.Mathlib.Decide.{decLt}
 use native.Mathlib.Omega.{arith}
 use mathlib.Core.Path.{_≡_, refl, ap, sym, _∙_}
@@ -37,7 +37,7 @@ ate-digits q a = record { what = a .state; place = a .place }
 
 -- ---- the exponent
 module _ (s : List ℕ) (at : ℕ) {x : ℕ} {b : Bool} (f : x ≡ peek (left s at)) (o : b ≡ (eqb x 0x2D || eqb x 0x2B)) where
-  pub exponent-signed : {a found end : ℕ} {any : Bool} → b ≡ true → Place s at a (tail (left s at)) → Run isDigit false s a any found end → Read exponent false s at 0 any found end
+  pub exponent-signed : {a found end : ℕ} {any : Bool} → b ≡ true → Place s at a (tail (left s at)) → Run isDigit false s a any found end → Read exponent s at 0 any found end
   unfolding exponent
   exponent-signed t p q =
       let h : (eqb (peek (left s at)) 0x2D || eqb (peek (left s at)) 0x2B) ≡ true = rw f at (sym o ∙ t) in
@@ -50,21 +50,21 @@ module _ (s : List ℕ) (at : ℕ) {x : ℕ} {b : Bool} (f : x ≡ peek (left s 
         first = over-sign f o t p (q .first);
       }
 
-  pub exponent-plain : {found end : ℕ} {any : Bool} → b ≡ false → Run isDigit false s at any found end → Read exponent false s at 0 any found end
+  pub exponent-plain : {found end : ℕ} {any : Bool} → b ≡ false → Run isDigit false s at any found end → Read exponent s at 0 any found end
   unfolding exponent
   exponent-plain t q =
       let h : (eqb (peek (left s at)) 0x2D || eqb (peek (left s at)) 0x2B) ≡ false = rw f at (sym o ∙ t) in
       let d = ate-digits isDigit (q .ate) in
       record { part = record { what = rw h (d .what); place = rw h (d .place) }; first = q .first }
 
-module _ (base : ℕ) {s : List ℕ} {at end kind before own found : ℕ} {any : Bool} (q : Read exponent false s at 0 any own end) (w : found ≡ firstOf before own) where
-  pub exponent-some : any ≡ true → kind ≡ 48 + 2 * base → Read (exponentOf base) false s at before kind found end
+module _ (base : ℕ) {s : List ℕ} {at end kind before own found : ℕ} {any : Bool} (q : Read exponent s at 0 any own end) (w : found ≡ firstOf before own) where
+  pub exponent-some : any ≡ true → kind ≡ 48 + 2 * base → Read (exponentOf base) s at before kind found end
   unfolding exponentOf
   exponent-some t k =
       let h : exponent (left s at) .0 ≡ true = sym (q .part .what) ∙ t in
       record { part = record { what = rw h (omega arith); place = q .part .place }; first = found-after (q .first) w }
 
-  pub exponent-empty : any ≡ false → kind ≡ 49 + 2 * base → Read (exponentOf base) false s at before kind found end
+  pub exponent-empty : any ≡ false → kind ≡ 49 + 2 * base → Read (exponentOf base) s at before kind found end
   unfolding exponentOf
   exponent-empty t k =
       let h : exponent (left s at) .0 ≡ false = sym (q .part .what) ∙ t in
@@ -72,14 +72,14 @@ module _ (base : ℕ) {s : List ℕ} {at end kind before own found : ℕ} {any :
 
 -- ---- behind a point
 module _ (base : ℕ) (s : List ℕ) (at : ℕ) {x before : ℕ} {b : Bool} (f : x ≡ peek (left s at)) (o : b ≡ isDigit x) where
-  pub point-none : {kind : ℕ} → not b ≡ true → at ≤ length s → kind ≡ 48 + 2 * base → Read (point base) false s at before kind before at
+  pub point-none : {kind : ℕ} → not b ≡ true → at ≤ length s → kind ≡ 48 + 2 * base → Read (point base) s at before kind before at
   unfolding point
   point-none t l k =
       let h : isDigit (peek (left s at)) ≡ false = rw f at (sym o ∙ not-true b t) in
       record { part = parted (point base) s at (float base false, left s at) (rw h) (omega arith) (stay l); first = misplaced-none }
 
   module _ {e y own found : ℕ} {any c : Bool} (t : not b ≡ false) (q : Run isDigit false s at any own e) (w : found ≡ firstOf before own) (g : y ≡ peek (left s e)) (o′ : c ≡ isE y) where
-    pub point-digits : {kind : ℕ} → c ≡ false → kind ≡ 48 + 2 * base → Read (point base) false s at before kind found e
+    pub point-digits : {kind : ℕ} → c ≡ false → kind ≡ 48 + 2 * base → Read (point base) s at before kind found e
     unfolding point
     point-digits u k =
         let h : isDigit (peek (left s at)) ≡ true = rw f at (sym o ∙ not-false b t) in
@@ -87,7 +87,7 @@ module _ (base : ℕ) (s : List ℕ) (at : ℕ) {x before : ℕ} {b : Bool} (f :
         let j : isE (peek (digits isDigit (left s at) .1)) ≡ false = rw (g, d .place .there) at (sym o′ ∙ u) in
         record { part = parted (point base) s at (float base false, digits isDigit (left s at) .1) (rw (h, j)) (omega arith) (d .place); first = found-after (q .first) w }
 
-    pub point-exponent : {a end kind last : ℕ} → c ≡ true → Place s e a (tail (left s e)) → Read (exponentOf base) false s a found kind last end → Read (point base) false s at before kind last end
+    pub point-exponent : {a end kind last : ℕ} → c ≡ true → Place s e a (tail (left s e)) → Read (exponentOf base) s a found kind last end → Read (point base) s at before kind last end
     unfolding point
     point-exponent u p r =
         let h : isDigit (peek (left s at)) ≡ true = rw f at (sym o ∙ not-false b t) in
@@ -103,7 +103,7 @@ module _ (base : ℕ) (s : List ℕ) (at : ℕ) {x before : ℕ} {b : Bool} (f :
 
 -- ---- behind the digits
 module _ (base : ℕ) (s : List ℕ) (at : ℕ) {x before : ℕ} (f : x ≡ peek (left s at)) where
-  pub fraction-point : {a end kind found : ℕ} → x ≡ 0x2E → Place s at a (tail (left s at)) → Read (point base) false s a before kind found end → Read (fraction base) false s at before kind found end
+  pub fraction-point : {a end kind found : ℕ} → x ≡ 0x2E → Place s at a (tail (left s at)) → Read (point base) s a before kind found end → Read (fraction base) s at before kind found end
   unfolding fraction
   fraction-point e p r =
       record {
@@ -113,7 +113,7 @@ module _ (base : ℕ) (s : List ℕ) (at : ℕ) {x before : ℕ} (f : x ≡ peek
         first = over-point f e p (r .first);
       }
 
-  pub fraction-exponent : {a end kind found : ℕ} {b : Bool} → (x ≡ 0x2E → ⊥) → b ≡ isE x → b ≡ true → Place s at a (tail (left s at)) → Read (exponentOf base) false s a before kind found end → Read (fraction base) false s at before kind found end
+  pub fraction-exponent : {a end kind found : ℕ} {b : Bool} → (x ≡ 0x2E → ⊥) → b ≡ isE x → b ≡ true → Place s at a (tail (left s at)) → Read (exponentOf base) s a before kind found end → Read (fraction base) s at before kind found end
   unfolding fraction
   fraction-exponent n o t p r =
       let h : isE (peek (left s at)) ≡ true = rw f at (sym o ∙ t) in
@@ -124,18 +124,18 @@ module _ (base : ℕ) (s : List ℕ) (at : ℕ) {x before : ℕ} (f : x ≡ peek
         first = over-e f o t p (r .first);
       }
 
-  pub fraction-none : {kind : ℕ} {b : Bool} → (x ≡ 0x2E → ⊥) → b ≡ isE x → b ≡ false → at ≤ length s → kind ≡ 40 + 2 * base → Read (fraction base) false s at before kind before at
+  pub fraction-none : {kind : ℕ} {b : Bool} → (x ≡ 0x2E → ⊥) → b ≡ isE x → b ≡ false → at ≤ length s → kind ≡ 40 + 2 * base → Read (fraction base) s at before kind before at
   unfolding fraction
   fraction-none n o t l k =
       let h : isE (peek (left s at)) ≡ false = rw f at (sym o ∙ t) in
       record { part = parted (fraction base) s at (int base false, left s at) (rw (ne-eqb _ 0x2E (λ z. n (f ∙ z)), h)) (omega arith) (stay l); first = misplaced-none }
 
 module _ (base : ℕ) (any : Bool) (s : List ℕ) (at : ℕ) {before : ℕ} where
-  pub based-some : {end kind found : ℕ} → any ≡ true → Read (fraction base) false s at before kind found end → Read (based base any) false s at before kind found end
+  pub based-some : {end kind found : ℕ} → any ≡ true → Read (fraction base) s at before kind found end → Read (based base any) s at before kind found end
   unfolding based
   based-some t r = record { part = parted (based base any) s at (fraction base (left s at)) (rw t) (r .part .what) (r .part .place); first = r .first }
 
-  pub based-none : {kind : ℕ} → any ≡ false → at ≤ length s → kind ≡ 41 + 2 * base → Read (based base any) false s at before kind before at
+  pub based-none : {kind : ℕ} → any ≡ false → at ≤ length s → kind ≡ 41 + 2 * base → Read (based base any) s at before kind before at
   unfolding based
   based-none t l k = record { part = parted (based base any) s at (int base true, left s at) (rw t) (omega arith) (stay l); first = misplaced-none }
 
@@ -178,7 +178,7 @@ module _ (c : ℕ) (s : List ℕ) (at : ℕ) where
   -- in its own bytes, where the digits are decimal
   numbered : {kind found end : ℕ} → hexBehind c (left s at) ≡ false → Parted (number c) s at kind end → Misplaced false s at end 0 found → Numbered c s at kind found end
   numbered {end = end} h p m =
-      record { part = p; first = λ own e. rw h (own-decimal m (number-stop c (left s at) s end (p .place .there)) own e) }
+      record { part = p; first = λ start e. rw h (own-decimal m (number-stop c (left s at) s end (p .place .there)) start e) }
 
   module _ {x : ℕ} (z : c ≡ 0x30) (f : x ≡ peek (left s at)) where
     zero : eqb c 0x30 ≡ true
@@ -187,13 +187,13 @@ module _ (c : ℕ) (s : List ℕ) (at : ℕ) where
     no-x : (x ≡ 0x78 → ⊥) → hexBehind c (left s at) ≡ false
     no-x n = rw (zero, ne-eqb _ 0x78 (λ w. n (f ∙ w)))
 
-    pub number-binary : {a own e end kind found : ℕ} {any : Bool} → x ≡ 0x62 → Place s at a (tail (left s at)) → Run isDigit false s a any own e → Read (based 0 any) false s e own kind found end → Numbered c s at kind found end
+    pub number-binary : {a own e end kind found : ℕ} {any : Bool} → x ≡ 0x62 → Place s at a (tail (left s at)) → Run isDigit false s a any own e → Read (based 0 any) s e own kind found end → Numbered c s at kind found end
     unfolding number
     number-binary i p d r =
         numbered (no-x (λ w. omega arith)) (from-digits 0 isDigit (tail (left s at)) p (d .ate) (r .part) (rw (zero, eq-eqb _ 0x62 (sym f ∙ i))))
         (over f (omega arith) (omega arith) (λ w. omega arith) refl p (misplaced-then (d .no-point) (d .first) (r .first)))
 
-    pub number-octal : {a own e end kind found : ℕ} {any : Bool} → (x ≡ 0x62 → ⊥) → x ≡ 0x6F → Place s at a (tail (left s at)) → Run isDigit false s a any own e → Read (based 1 any) false s e own kind found end → Numbered c s at kind found end
+    pub number-octal : {a own e end kind found : ℕ} {any : Bool} → (x ≡ 0x62 → ⊥) → x ≡ 0x6F → Place s at a (tail (left s at)) → Run isDigit false s a any own e → Read (based 1 any) s e own kind found end → Numbered c s at kind found end
     unfolding number
     number-octal n i p d r =
         numbered (no-x (λ w. omega arith)) (from-digits 1 isDigit (tail (left s at)) p (d .ate) (r .part) (rw (zero, ne-eqb _ 0x62 (λ w. n (f ∙ w)), eq-eqb _ 0x6F (sym f ∙ i))))
@@ -208,17 +208,17 @@ module _ (c : ℕ) (s : List ℕ) (at : ℕ) where
           | no j ↦ d .no-point k (omega arith) h w
         ]
 
-    pub number-hex : {a own e end kind found : ℕ} {any : Bool} → (x ≡ 0x62 → ⊥) → (x ≡ 0x6F → ⊥) → x ≡ 0x78 → Place s at a (tail (left s at)) → Run isHexDigit true s a any own e → Read (based 3 any) false s e own kind found end → Numbered c s at kind found end
+    pub number-hex : {a own e end kind found : ℕ} {any : Bool} → (x ≡ 0x62 → ⊥) → (x ≡ 0x6F → ⊥) → x ≡ 0x78 → Place s at a (tail (left s at)) → Run isHexDigit true s a any own e → Read (based 3 any) s e own kind found end → Numbered c s at kind found end
     unfolding number
     number-hex {end = end} n m i p d r =
         let h : hexBehind c (left s at) ≡ true = rw (zero, eq-eqb _ 0x78 (sym f ∙ i)) in
         let w : Parted (number c) s at _ end = from-digits 3 isHexDigit (tail (left s at)) p (d .ate) (r .part) (rw (zero, ne-eqb _ 0x62 (λ v. n (f ∙ v)), ne-eqb _ 0x6F (λ v. m (f ∙ v)), eq-eqb _ 0x78 (sym f ∙ i))) in
         record {
           part = w;
-          first = λ own e. rw h (own-hex (from-x i p d) (over f (omega arith) (omega arith) (λ v. omega arith) (rw i) p (d .first)) (d .stop) (r .first) (point-behind 3 d (r .part)) (number-stop c (left s at) s end (w .place .there)) own e);
+          first = λ start e. rw h (own-hex (from-x i p d) (over f (omega arith) (omega arith) (λ v. omega arith) (rw i) p (d .first)) (d .stop) (r .first) (point-behind 3 d (r .part)) (number-stop c (left s at) s end (w .place .there)) start e);
         }
 
-  plainly : {own e end kind found : ℕ} {any : Bool} → number c (left s at) ≡ fraction 2 (digits isDigit (left s at) .1) → hexBehind c (left s at) ≡ false → Run isDigit false s at any own e → Read (fraction 2) false s e own kind found end → Numbered c s at kind found end
+  plainly : {own e end kind found : ℕ} {any : Bool} → number c (left s at) ≡ fraction 2 (digits isDigit (left s at) .1) → hexBehind c (left s at) ≡ false → Run isDigit false s at any own e → Read (fraction 2) s e own kind found end → Numbered c s at kind found end
   plainly h b d r =
       let g = ate-digits isDigit (d .ate) in
       let v = g .place .there in
@@ -228,12 +228,12 @@ module _ (c : ℕ) (s : List ℕ) (at : ℕ) where
       (from-place (g .place) (r .part .place) (ap (λ (m : List ℕ). fraction 2 m .1) v)))
       (misplaced-then (d .no-point) (d .first) (r .first))
 
-  pub number-zero : {x own e end kind found : ℕ} {any : Bool} → c ≡ 0x30 → x ≡ peek (left s at) → (x ≡ 0x62 → ⊥) → (x ≡ 0x6F → ⊥) → (x ≡ 0x78 → ⊥) → Run isDigit false s at any own e → Read (fraction 2) false s e own kind found end → Numbered c s at kind found end
+  pub number-zero : {x own e end kind found : ℕ} {any : Bool} → c ≡ 0x30 → x ≡ peek (left s at) → (x ≡ 0x62 → ⊥) → (x ≡ 0x6F → ⊥) → (x ≡ 0x78 → ⊥) → Run isDigit false s at any own e → Read (fraction 2) s e own kind found end → Numbered c s at kind found end
   unfolding number
   number-zero z f n m k d r =
       plainly (rw (eq-eqb c 0x30 z, ne-eqb _ 0x62 (λ w. n (f ∙ w)), ne-eqb _ 0x6F (λ w. m (f ∙ w)), ne-eqb _ 0x78 (λ w. k (f ∙ w)))) (no-x z f k) d r
 
-  pub number-other : {own e end kind found : ℕ} {any : Bool} → (c ≡ 0x30 → ⊥) → Run isDigit false s at any own e → Read (fraction 2) false s e own kind found end → Numbered c s at kind found end
+  pub number-other : {own e end kind found : ℕ} {any : Bool} → (c ≡ 0x30 → ⊥) → Run isDigit false s at any own e → Read (fraction 2) s e own kind found end → Numbered c s at kind found end
   unfolding number
   number-other z d r = plainly (rw (ne-eqb c 0x30 z)) (rw (ne-eqb c 0x30 z)) d r
 

@@ -167,10 +167,10 @@ module _ (more emoji s : List ℕ) (at : ℕ) where
         parted (hardware (moreIn more) (emojiIn emoji)) s at (cond (digits isDigit (left s at) .0) hardwareIdent dollar, digits isDigit (left s at) .1) (rw h) (rw (← d .what) k) (d .place)
 
 module _ {s : List ℕ} {at end kind found : ℕ} where
-  pub wired-fake : kind ≡ invalidIdent → found ≡ 0 → Wired s at kind end found
+  pub wired-fake : kind ≡ invalidIdent → found ≡ 0 → Wired s at kind found end
   wired-fake k z = record { run = λ t. absurd (false≢true (rw k at t)); none = λ t. (rw k, z) }
 
-  pub wired-digits : {any : Bool} → Run isDigit false s at any found end → kind ≡ cond any hardwareIdent dollar → Wired s at kind end found
+  pub wired-digits : {any : Bool} → Run isDigit false s at any found end → kind ≡ cond any hardwareIdent dollar → Wired s at kind found end
   wired-digits {any} q k = record { run = λ t. (q .first, q .stop); none = λ t. absurd (false≢true (sym t ∙ ap isWire k ∙ either any)) }
     where
       either : (b : Bool) → isWire (cond b hardwareIdent dollar) ≡ true

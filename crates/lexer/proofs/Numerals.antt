@@ -13,6 +13,7 @@ use borrow.Author.Tests.{ne-eqb, le-leb, lt-leb}
 use Rattle.lists.specs.Eat.{eat}
 use Rattle.lists.proofs.Bools.{by-test, on-cond, and-false}
 use Rattle.lists.proofs.Eat.{eat-nil, eat-more, eat-stop}
+use Rattle.unicode.specs.Ranges.{_to_, inRange}
 use Rattle.unicode.specs.Text.{left}
 use Rattle.cutters.specs.Kinds.{isNumber, int, float}
 use Rattle.cutters.specs.Digits.{peek, isDigit, isHexDigit}
@@ -25,8 +26,8 @@ use Rattle.lexer.proofs.Bytewise.{peek-ascii, peek-drop}
 use Rattle.lexer.proofs.Underscores.{Digital, decimals, hexadecimals, stays}
 
 -- ---- behind digits no digit stands
-stop-of : (p : ℕ → Bool) (c : ℕ) → orUnderscore p c ≡ false → p c ≡ false
-stop-of p c h = by-test (eqb c 0x5F) (λ t. absurd (false≢true (sym h ∙ rw t))) (λ t. rw t at h)
+neither : (a b : Bool) → (a || b) ≡ false → (a ≡ false) × (b ≡ false)
+neither a b h = by-test a (λ t. absurd (false≢true (sym h ∙ rw t))) (λ t. (t, rw t at h))
 
 digits-stop : {p : ℕ → Bool} → Digital p → (t : List ℕ) → p (peek (digits p t .1)) ≡ false
 unfolding digits
@@ -37,7 +38,7 @@ digits-stop {p} q = go false
     go b (c ∷ t) =
         by-test (orUnderscore p c)
         (λ h. rw (eat-more (orUnderscore p) (met p) b c t h) (go (met p b c) t))
-        (λ h. rw (eat-stop (orUnderscore p) (met p) b c t h) (stop-of p c h))
+        (λ h. rw (eat-stop (orUnderscore p) (met p) b c t h) (neither (eqb c 0x5F) (p c) h .1))
 
 -- a number, by its kind and what is left behind it
 record Ended (x : ℕ × List ℕ) : Type 0 where
@@ -82,7 +83,7 @@ module _ {base : ℕ} (known : base ≤ 3) where
 -- what is no hexadecimal digit is no digit
 no-hex : (c : ℕ) → isHexDigit c ≡ false → isDigit c ≡ false
 unfolding isHexDigit
-no-hex c h = by-test (isDigit c) (λ t. absurd (false≢true (sym h ∙ rw t))) (λ t. t)
+no-hex c h = neither (isDigit c) (inRange c (0x41 to 0x46) || inRange c (0x61 to 0x66)) h .0
 
 number-ended : (c : ℕ) (t : List ℕ) → Ended (number c t)
 unfolding number

@@ -6,7 +6,7 @@ use native.Mathlib.Omega.{arith}
 use mathlib.Core.Path.{_≡_, refl, ap, sym, _∙_}
 use mathlib.Core.Bool.{true}
 use mathlib.Core.List.{List, [], _∷_}
-use lib.ListN.{length, drop, length-take, length-drop}
+use lib.ListN.{length, drop, length-drop}
 use lib.Seq.{drop-drop}
 use Rattle.lists.proofs.Cut.{cut-few}
 use Rattle.lists.proofs.Ends.{ends-cons}
@@ -14,9 +14,9 @@ use Rattle.unicode.specs.Utf8.{first, next, chars}
 use Rattle.unicode.specs.Text.{byteLength, left}
 use Rattle.unicode.proofs.Text.{point-at, left-end, between, bytes-chars, chars-behind, ends-bytes}
 use Rattle.unicode.proofs.Valid.{width-some}
-use Rattle.cutters.specs.Records.{Token, bytesOf}
+use Rattle.cutters.specs.Records.{Token}
 use Rattle.cutters.specs.Underscores.{misplacedIn, misplacedOf}
-use Rattle.cutters.proofs.Underscores.{found-least}
+use Rattle.cutters.proofs.Underscores.{word-most}
 use Rattle.cutters.specs.Kinds.{eof}
 use Rattle.lexer.specs.Cut.{Letters, advance, advanceToken, nextToken, tokens}
 use Rattle.lexer.specs.Steps.{Cuts}
@@ -147,7 +147,7 @@ module _ (u : Letters) (profile : ℕ) (s : List ℕ) (at kind suffixAt found en
   end-within = elim (decLt at (length s)) [ yes h ↦ omega (arith, end-here h, within h .0) | no n ↦ omega (arith, end-there (omega arith)) ]
 
   pub found-within : found ≤ length s
-  found-within = omega (arith, a .found-is, found-least (front (tokensBy u profile (drop at s)) .kind) (front (tokensBy u profile (drop at s)) .suffix) (bytesOf s at (front (tokensBy u profile (drop at s)))), length-take (front (tokensBy u profile (drop at s)) .len) (drop at s), length-drop at s)
+  found-within = omega (arith, a .found-is, word-most s at (front (tokensBy u profile (drop at s))))
 
   pub suffix-after : at ≤ suffixAt
   suffix-after = omega (arith, a .suffix-is)

@@ -213,26 +213,22 @@ over {hex} {s} {at} {a} {end} {x} {y} {z} f l h n g p m =
     record { after = omega (arith, q .0); first = λ k. m .first (omega (arith, q .0)) ∙ rw i }
 
 module _ {s : List ℕ} {at a end x y z : ℕ} (f : x ≡ peek (left s at)) where
+  -- one that is known
+  over-one : (k : ℕ) → 1 ≤ k → k < 0x80 → (k ≡ 0x5F → ⊥) → x ≡ k → Place s at a (tail (left s at)) → Misplaced false s a end y z → Misplaced false s at end y z
+  over-one k l h n e = over f (omega arith) (omega arith) (λ j. n (sym e ∙ j)) refl
+
   pub over-point : x ≡ 0x2E → Place s at a (tail (left s at)) → Misplaced false s a end y z → Misplaced false s at end y z
-  over-point e = over f (omega arith) (omega arith) (λ k. omega arith) refl
+  over-point = over-one 0x2E (omega arith) (omega arith) (λ j. omega arith)
 
   pub over-e : {b : Bool} → b ≡ isE x → b ≡ true → Place s at a (tail (left s at)) → Misplaced false s a end y z → Misplaced false s at end y z
-  over-e o t = by-test (eqb x 0x65) (λ k. at-e (eqb-true x 0x65 k)) (λ k. at-big (eqb-true x 0x45 (rw k at (sym o ∙ t))))
-    where
-      at-e : x ≡ 0x65 → Place s at a (tail (left s at)) → Misplaced false s a end y z → Misplaced false s at end y z
-      at-e e = over f (omega arith) (omega arith) (λ k. omega arith) refl
-
-      at-big : x ≡ 0x45 → Place s at a (tail (left s at)) → Misplaced false s a end y z → Misplaced false s at end y z
-      at-big e = over f (omega arith) (omega arith) (λ k. omega arith) refl
+  over-e o t =
+      by-test (eqb x 0x65) (λ k. over-one 0x65 (omega arith) (omega arith) (λ j. omega arith) (eqb-true x 0x65 k))
+      (λ k. over-one 0x45 (omega arith) (omega arith) (λ j. omega arith) (eqb-true x 0x45 (rw k at (sym o ∙ t))))
 
   pub over-sign : {b : Bool} → b ≡ (eqb x 0x2D || eqb x 0x2B) → b ≡ true → Place s at a (tail (left s at)) → Misplaced false s a end y z → Misplaced false s at end y z
-  over-sign o t = by-test (eqb x 0x2D) (λ k. at-minus (eqb-true x 0x2D k)) (λ k. at-plus (eqb-true x 0x2B (rw k at (sym o ∙ t))))
-    where
-      at-minus : x ≡ 0x2D → Place s at a (tail (left s at)) → Misplaced false s a end y z → Misplaced false s at end y z
-      at-minus e = over f (omega arith) (omega arith) (λ k. omega arith) refl
-
-      at-plus : x ≡ 0x2B → Place s at a (tail (left s at)) → Misplaced false s a end y z → Misplaced false s at end y z
-      at-plus e = over f (omega arith) (omega arith) (λ k. omega arith) refl
+  over-sign o t =
+      by-test (eqb x 0x2D) (λ k. over-one 0x2D (omega arith) (omega arith) (λ j. omega arith) (eqb-true x 0x2D k))
+      (λ k. over-one 0x2B (omega arith) (omega arith) (λ j. omega arith) (eqb-true x 0x2B (rw k at (sym o ∙ t))))
 
 -- behind what was found before
 pub found-after : {hex : Bool} {s : List ℕ} {at end x y z : ℕ} → Misplaced hex s at end 0 y → z ≡ firstOf x y → Misplaced hex s at end x z

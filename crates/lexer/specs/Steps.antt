@@ -35,35 +35,37 @@ pub record Agreed (word s : List ℕ) (at count end : ℕ) : Type 0 where
   pub place : Place s at end (drop count (left s at))
 
 -- ---- misplaced underscores
--- where the first one stands from `at` to `end`, if none was found before; at the start of a text is none
+-- where in the text the first one stands from `at` to `end`, if none was found before; of a run at the text's first byte nothing is said
 pub record Misplaced (hex : Bool) (s : List ℕ) (at end found found′ : ℕ) : Type 0 where
   pub after : at ≤ end
   pub first : 1 ≤ at → found′ ≡ firstOf found (misplacedIn hex s at (end - at))
 
--- what a digit reader says of the run from `at` to `end`: whether there was a digit, and where its first one stands; and what is no part of the run
+-- what a digit reader says of the run from `at` to `end`: whether there was a digit, and where in the text its first misplaced underscore stands; no point is part
+-- of the run, and no digit stands behind it
 pub record Run (digit : ℕ → Bool) (hex : Bool) (s : List ℕ) (at : ℕ) (any : Bool) (found end : ℕ) : Type 0 where
   pub ate : Ate (orUnderscore digit) (met digit) s at false end any
   pub first : Misplaced hex s at end 0 found
   pub no-point : (k : ℕ) → at ≤ k → k < end → getD s k 0 ≡ 0x2E → ⊥
   pub stop : digit (getD s end 0) ≡ false
 
--- what holds runs, by a definition that gives a kind or a flag and what is left, and where the first one stands, if none was found before
-pub record Read {A : Type 0} (f : List ℕ → A × List ℕ) (hex : Bool) (s : List ℕ) (at before : ℕ) (x : A) (found end : ℕ) : Type 0 where
+-- what holds decimal runs, by a definition that gives a kind or a flag and what is left; and where in the text the first misplaced underscore stands, if none was
+-- found before
+pub record Read {A : Type 0} (f : List ℕ → A × List ℕ) (s : List ℕ) (at before : ℕ) (x : A) (found end : ℕ) : Type 0 where
   pub part : Parted f s at x end
-  pub first : Misplaced hex s at end before found
+  pub first : Misplaced false s at end before found
 
 -- behind a first digit c the digits are hexadecimal
 abbrev pub hexBehind : ℕ → List ℕ → Bool
 hexBehind c t = eqb c 0x30 && eqb (peek t) 0x78
 
--- a number behind its first digit c, at a place of the text: its kind, the place where it ends, and where its first one stands, as the bytes from its first
--- digit on have it
+-- a number behind its first digit c: its kind, the place where it ends, and where in the text its first misplaced underscore stands, told by the bytes from its
+-- first digit on
 pub record Numbered (c : ℕ) (s : List ℕ) (at kind found end : ℕ) : Type 0 where
   pub part : Parted (number c) s at kind end
   pub first : (own : ℕ) → at ≡ suc own → found - own ≡ misplacedIn (hexBehind c (left s at)) (take (end - own) (drop own s)) 1 (end - at)
 
--- behind $, by the kind of the token
-pub record Wired (s : List ℕ) (at kind end found : ℕ) : Type 0 where
+-- what begins with $, behind that: a hardware identifier or a Dollar has one run, up to its end, and no digit stands behind it; all else has none
+pub record Wired (s : List ℕ) (at kind found end : ℕ) : Type 0 where
   pub run : isWire kind ≡ true → (Misplaced false s at end 0 found) × (isDigit (getD s end 0) ≡ false)
   pub none : isWire kind ≡ false → (isNumber kind ≡ false) × (found ≡ 0)
 
@@ -97,20 +99,21 @@ pub record Lettered (c : ℕ) : Type 0 where
   pub no-space : isWhitespace c ≡ false
   pub low : (c < 0x80 → (eqb c 0x5F || inTable c asciiStart) ≡ true)
 
--- a number behind its first digit c, or a quoted text behind its quote: its kind, and the places where its suffix starts and where that ends
+-- a number behind its first digit c, or a quoted text behind its quote: its kind, the places where its suffix starts and where that ends, and how far behind the
+-- token's own start its first misplaced underscore stands
 pub record NumberAt (start more : ℕ → Bool) (c : ℕ) (s : List ℕ) (own at kind suffixAt found end : ℕ) : Type 0 where
   pub what : Parted (number c) s at kind suffixAt
   pub first : at ≡ suc own → found ≡ misplacedIn (hexBehind c (left s at)) (take (suffixAt - own) (drop own s)) 1 (suffixAt - at)
   pub place : Place s suffixAt end (numberSuffix start more (left s suffixAt))
 
-pub record StringAt (start more : ℕ → Bool) (s : List ℕ) (own at kind suffixAt found end : ℕ) : Type 0 where
+pub record StringAt (start more : ℕ → Bool) (s : List ℕ) (at kind suffixAt found end : ℕ) : Type 0 where
   pub what : kind ≡ quoteKind (quoted (left s at))
   pub none : found ≡ 0
   pub begin : Place s at suffixAt (quoted (left s at) .rest)
   pub place : Place s suffixAt end (cond (quoted (left s at) .closed) (identifier start more (left s suffixAt)) (left s suffixAt))
 
 pub record LiteralAt (start more : ℕ → Bool) (c : ℕ) (s : List ℕ) (own at kind suffixAt found end : ℕ) : Type 0 where
-  pub string : (c ≡ 0x22 → StringAt start more s own at kind suffixAt found end)
+  pub string : (c ≡ 0x22 → StringAt start more s at kind suffixAt found end)
   pub number : ((c ≡ 0x22 → ⊥) → NumberAt start more c s own at kind suffixAt found end)
 
 -- what is told of a token that is no literal, from `at` to `end`: its kind, where its suffix starts, how far into it its first misplaced underscore stands, and

@@ -64,9 +64,9 @@ fn wire(at: usize, f: Figures) -> Piece
 }
 
 // A quoted text, behind its quote.
-fn string(text: &[u8], at: usize, from: Cursor, start: &[u32], more: &[u32]) -> Piece
+fn string(text: &[u8], from: Cursor, start: &[u32], more: &[u32]) -> Piece
     requires { ⌜ from .at ≤ length (now text) ⌝ }
-    ensures { λ r. ⌜ StringAt (startIn (now (start .entry))) (moreIn (now (more .entry))) (now (text .entry)) at (from .at) (r .kind) (r .suffix) (r .misplaced) (r .end) ⌝ }
+    ensures { λ r. ⌜ StringAt (startIn (now (start .entry))) (moreIn (now (more .entry))) (now (text .entry)) (from .at) (r .kind) (r .suffix) (r .misplaced) (r .end) ⌝ }
 {
     let q = double_quoted_string(text, from);
     let cursor = q.cursor;
@@ -125,7 +125,7 @@ fn literal(text: &[u8], at: usize, from: Cursor, c: u32, start: &[u32], more: &[
     ensures { λ r. ⌜ LiteralAt (startIn (now (start .entry))) (moreIn (now (more .entry))) c (now (text .entry)) at (from .at) (r .kind) (r .suffix) (r .misplaced) (r .end) ⌝ }
 {
     if c == 0x22 {
-        return string(text, at, from, start, more);
+        return string(text, from, start, more);
     }
     numeral(text, at, from, c, start, more)
 }

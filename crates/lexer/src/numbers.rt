@@ -45,7 +45,7 @@ fn is_e(c: u32) -> bool
 
 fn eat_float_exponent(text: &[u8], from: Cursor) -> Digits
     requires { ⌜ from .at ≤ length (now text) ⌝ }
-    ensures { λ r. ⌜ Read exponent false (now (text .entry)) (from .at) 0 (r .any) (r .misplaced) (r .cursor .at) ⌝ }
+    ensures { λ r. ⌜ Read exponent (now (text .entry)) (from .at) 0 (r .any) (r .misplaced) (r .cursor .at) ⌝ }
 {
     if is_sign(from.first(text)) {
         return from.bump(text).eat_decimal_digits(text);
@@ -56,7 +56,7 @@ fn eat_float_exponent(text: &[u8], from: Cursor) -> Digits
 // A Float, behind its e. The place `found` is that of the first misplaced underscore before, as it is below.
 fn exponent_of(text: &[u8], from: Cursor, base: u32, found: usize) -> Figures
     requires { ⌜ (from .at ≤ length (now text)) × (base ≤ 3) ⌝ }
-    ensures { λ r. ⌜ Read (exponentOf base) false (now (text .entry)) (from .at) found (r .kind) (r .misplaced) (r .cursor .at) ⌝ }
+    ensures { λ r. ⌜ Read (exponentOf base) (now (text .entry)) (from .at) found (r .kind) (r .misplaced) (r .cursor .at) ⌝ }
 {
     let e = eat_float_exponent(text, from);
     let cursor = e.cursor;
@@ -78,7 +78,7 @@ fn exponent_of(text: &[u8], from: Cursor, base: u32, found: usize) -> Figures
 // A Float, behind its point.
 fn point(text: &[u8], from: Cursor, base: u32, found: usize) -> Figures
     requires { ⌜ (from .at ≤ length (now text)) × (base ≤ 3) ⌝ }
-    ensures { λ r. ⌜ Read (point base) false (now (text .entry)) (from .at) found (r .kind) (r .misplaced) (r .cursor .at) ⌝ }
+    ensures { λ r. ⌜ Read (point base) (now (text .entry)) (from .at) found (r .kind) (r .misplaced) (r .cursor .at) ⌝ }
 {
     if !is_digit(from.first(text)) {
         return Figures {
@@ -103,7 +103,7 @@ fn point(text: &[u8], from: Cursor, base: u32, found: usize) -> Figures
 // Behind the digits of a base: a point, an exponent, or nothing.
 fn fraction(text: &[u8], from: Cursor, base: u32, found: usize) -> Figures
     requires { ⌜ (from .at ≤ length (now text)) × (base ≤ 3) ⌝ }
-    ensures { λ r. ⌜ Read (fraction base) false (now (text .entry)) (from .at) found (r .kind) (r .misplaced) (r .cursor .at) ⌝ }
+    ensures { λ r. ⌜ Read (fraction base) (now (text .entry)) (from .at) found (r .kind) (r .misplaced) (r .cursor .at) ⌝ }
 {
     let x = from.first(text);
     if x == 0x2E {
@@ -122,7 +122,7 @@ fn fraction(text: &[u8], from: Cursor, base: u32, found: usize) -> Figures
 // Behind 0b, 0o or 0x and what digits there are.
 fn based(text: &[u8], d: Digits, base: u32) -> Figures
     requires { ⌜ (d .cursor .at ≤ length (now text)) × (base ≤ 3) ⌝ }
-    ensures { λ r. ⌜ Read (based base (d .any)) false (now (text .entry)) (d .cursor .at) (d .misplaced) (r .kind) (r .misplaced) (r .cursor .at) ⌝ }
+    ensures { λ r. ⌜ Read (based base (d .any)) (now (text .entry)) (d .cursor .at) (d .misplaced) (r .kind) (r .misplaced) (r .cursor .at) ⌝ }
 {
     let cursor = d.cursor;
     if d.any {

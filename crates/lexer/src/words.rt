@@ -157,7 +157,7 @@ pub fn annotation(text: &[u8], from: Cursor, start: &[u32]) -> Part
 // Behind a dollar sign.
 pub fn hardware_ident(text: &[u8], from: Cursor, more: &[u32], emoji: &[u32]) -> Figures
     requires { ⌜ from .at ≤ length (now text) ⌝ }
-    ensures { λ r. ⌜ (Parted (hardware (moreIn (now (more .entry))) (emojiIn (now (emoji .entry)))) (now (text .entry)) (from .at) (r .kind) (r .cursor .at)) × (Wired (now (text .entry)) (from .at) (r .kind) (r .cursor .at) (r .misplaced)) ⌝ }
+    ensures { λ r. ⌜ (Parted (hardware (moreIn (now (more .entry))) (emojiIn (now (emoji .entry)))) (now (text .entry)) (from .at) (r .kind) (r .cursor .at)) × (Wired (now (text .entry)) (from .at) (r .kind) (r .misplaced) (r .cursor .at)) ⌝ }
 {
     if is_wide_emoji(emoji, from.first(text)) {
         let mid = from.eat_id_continue(text, more);

@@ -56,12 +56,12 @@ module _ {s list list′ : List ℕ} {profile number also : ℕ} (l : Listed s p
     behind = drop i (tokensOf profile s)
 
     -- where record i starts, and the tokens from there on
-    starts-at : startWord list′ i ≡ total before
+    pub starts-at : startWord list′ i ≡ total before
     starts-at =
         let ts = tokensOf profile s in
         ap (λ (w : List ℕ). startWord w i) written ∙ flat-start s 0 ts (drop (length (flatFrom s 0 ts)) list) i (omega (arith, told .2)) ∙ omega arith
 
-    from-there : tokensBy unicode profile (drop (total before) s) ≡ behind
+    pub from-there : tokensBy unicode profile (drop (total before) s) ≡ behind
     unfolding tokens3
     from-there =
         sym (from-boundary (openQasm unicode profile) before behind s (sym (tokens-cut unicode profile s) ∙ sym own ∙ sym (take-append-drop i (tokensOf profile s))) ∙ sym (tokens-cut unicode profile (drop (total before) s)))

@@ -20,9 +20,9 @@ use Rattle.text.specs.Steps.{Entered}
 use Rattle.text.proofs.Room as room
 use Rattle.text.proofs.Checks.{cut-passed}
 use Rattle.text.proofs.Marks.{marked-refused}
-use Rattle.cutters.specs.Records.{Token, total, recordWords, bytesOf, misplacedAt, wordsOf, flatFrom}
+use Rattle.cutters.specs.Records.{Token, total, recordWords, misplacedAt, wordsOf, flatFrom}
 use Rattle.cutters.specs.Underscores.{misplacedIn, misplacedOf}
-use Rattle.cutters.proofs.Underscores.{found-least}
+use Rattle.cutters.proofs.Underscores.{word-most}
 use Rattle.cutters.proofs.Records.{length-words, length-flat}
 use Rattle.lexer.specs.Cut.{Letters}
 use Rattle.lexer.specs.Unicode.{unicode, lent}
@@ -249,9 +249,8 @@ module _ {u : Letters} {profile : ℕ} {s list′ : List ℕ} {at end count : �
 
   pub one-misplaced : getD list′ 4 0 ≤ length s
   one-misplaced =
-      let t = front (one u profile s at) in
       let w = one-words s at (one u profile s at) (one-few u profile s at) (r .words) in
-      omega (arith, w .2, found-least (t .kind) (t .suffix) (bytesOf s at t), length-take (t .len) (drop at s), length-drop at s)
+      omega (arith, w .2, word-most s at (front (one u profile s at)))
 
   pub one-token : {kind suffixAt found end′ : ℕ} → kind ≡ getD list′ 0 0 → suffixAt ≡ at + getD list′ 2 0 → found ≡ getD list′ 4 0 → end′ ≡ end → TokenAt u profile s at kind suffixAt found end′
   one-token k m f e =
@@ -267,9 +266,7 @@ module _ {u : Letters} {profile : ℕ} {s : List ℕ} {at kind suffixAt found en
   one-end = (omega (arith, a .end-is), omega (arith, a .end-is, one-within u profile s at .1))
 
   pub one-found : found ≤ length s
-  one-found =
-      let t = front (one u profile s at) in
-      omega (arith, a .found-is, found-least (t .kind) (t .suffix) (bytesOf s at t), length-take (t .len) (drop at s), length-drop at s)
+  one-found = omega (arith, a .found-is, word-most s at (front (one u profile s at)))
 
 -- ---- A TEXT WITH A DIRECTION MARK is refused with 7, in whatever room, and the list is left as it was
 pub listed-marked : {s list list′ : List ℕ} {profile number also : ℕ} → CutMarked s profile → Listed s profile list number also list′ → (number ≡ directionMark) × (also ≡ unmarkedUpTo s) × (list′ ≡ list)

@@ -1,4 +1,5 @@
--- The starred samples of the scope, its example of a key, one of where tokens start, and those of misplaced underscores, in one table: a call, what it answers, and what it leaves in the memory that it was lent.
+-- The starred samples of the scope, its example of a key, one of where tokens start, and those of misplaced underscores, in one table: a call, what it answers,
+-- and what it leaves in the memory that it was lent.
 -- Assumes nothing.
 use Prim.Native.Nat.{ℕ}
 use mathlib.Core.List.{List, [], _∷_}
