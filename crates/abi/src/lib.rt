@@ -1,5 +1,7 @@
 // The names that C and Rust link, one for each public function of the libraries that a caller there can use and that no other name serves: each is
 // one call, under the promise of the function that it calls. include/oq3.h declares them.
+#![tactic(auto)]
+
 ghost use Rattle.std.specs.Prelude.{◌≡◌, true, false, [], ◌%◌, length};
 ghost use Rattle.characters.specs.Utf8.{valid_up_to};
 ghost use Rattle.characters.specs.Direction.{clean_up_to};
@@ -18,6 +20,7 @@ ghost use Rattle.rows.specs.Rows.{Rowed};
 ghost use Rattle.same.specs.Compare.{Compared, compared};
 ghost use Rattle.same.specs.Places.{Placed, place_of};
 
+use characters::utf8::{Char, clean_up_to, decode, valid_up_to};
 use listing::tokenize;
 use parts::{Fed, Lexer};
 use renewal::renewal_key;
@@ -25,7 +28,6 @@ use rows::{Token, tokenize_rows};
 use same::{Comparison, Place, compare, place_of};
 use text::{Answer, check_cut, check_text, default_profile};
 use unescape::{unescape_literal, unescape_part};
-use characters::utf8::{Char, clean_up_to, decode, valid_up_to};
 
 // ---- tokens
 #[unsafe(no_mangle)]

@@ -19,7 +19,7 @@ pub const BUFFER: usize = 4096;
 pub type Buffer = [u8; BUFFER];
 
 // The lexer, and how long the chunk and the carry of the last accepted call were.
-#[derive(Drop)]
+#[derive(Clone, Copy)]
 pub struct Now {
     pub lexer: Lexer,
     pub chunk: usize,

@@ -1,4 +1,6 @@
 // Answers the cases on standard input, one a line: prints each line again, with ` = ` and its answer behind it.
+#![tactic(auto)]
+
 mod comparisons;
 mod histories;
 mod keys;

@@ -35,7 +35,7 @@ pub fn wide(word: u32) -> usize
 }
 
 // A part of the text, if there is one.
-#[derive(Drop)]
+#[derive(Clone, Copy)]
 struct Part {
     right: bool,
     from: usize,

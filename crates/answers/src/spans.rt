@@ -8,7 +8,7 @@ use crate::words::{Text, after, before};
 use parts::Lexer;
 
 // The first byte of an answer, 0 where it is empty, and how long it is.
-#[derive(Drop)]
+#[derive(Clone, Copy)]
 struct Seen {
     first: u8,
     len: usize,

@@ -7,14 +7,14 @@ pub const TEXT: usize = 32768;
 pub type Text = [u8; TEXT];
 
 // Whether a word writes a number below 2^32, and which.
-#[derive(Drop)]
+#[derive(Clone, Copy)]
 pub struct Number {
     pub right: bool,
     pub value: u32,
 }
 
 // Whether a word writes bytes, and how many.
-#[derive(Drop)]
+#[derive(Clone, Copy)]
 pub struct Bytes {
     pub right: bool,
     pub count: usize,
@@ -202,7 +202,7 @@ pub fn hex(word: &[u8], room: &mut Text) -> Bytes
 
 // What stands behind a task's name: its numbers, 0 for each that it hasn't, and how many bytes the text has. `right` is whether all
 // of it can be read.
-#[derive(Drop)]
+#[derive(Clone, Copy)]
 pub struct Asked {
     pub right: bool,
     pub first: u32,

@@ -1,7 +1,7 @@
 -- Which profile the words behind a program's name ask for, and what `oqlist` answers.
 -- Assumes nothing.
 use Rattle.std.specs.Prelude.{ℕ, ◌≡◌, cond, List, [], ◌∷◌, eqb, ltb, length}
-use Rattle.text.specs.Answer.{Answered, done, too_long, default_profile, check_profile, ◌andThen◌}
+use Rattle.text.specs.Answer.{Answered, done, too_long, default_profile, check_profile, ◌and_then◌}
 use Rattle.listing.specs.Promises.{answer_of, listed}
 
 -- what names no profile: a number that none has

@@ -1,4 +1,6 @@
 // Which profile the words behind a program's name ask for, and what `oqlist` answers.
+#![tactic(auto)]
+
 ghost use Rattle.std.specs.Prelude.{◌≡◌};
 ghost use Rattle.text.specs.Answer.{Answered, check_profile};
 ghost use Rattle.arguments.specs.Arguments.{named, asked, ListedAsked};

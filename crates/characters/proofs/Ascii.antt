@@ -127,9 +127,9 @@ module _ {S : Type 0} {p : ℕ → Bool} {g : S → ℕ → S} {s : List ℕ} wh
   going_none h = record { after = omega arith; within = h; same = refl }
 
   -- the byte at a place, in front of those behind it
-  pub going_on : {at₀ at at' b : ℕ} {x₀ x x' : S} {f : Bool} → Going p g s at₀ x₀ at x → b ≡ get_or s at 0 → at < length s → f ≡ p b → not f ≡ false → at' ≡ at + 1 → x' ≡ g x b → Going p g s at₀ x₀ at' x'
+  pub going_on : {at₀ at at' b : ℕ} {x₀ x x' : S} {f : Bool} → Going p g s at₀ x₀ at x → b ≡ get_or s at 0 → at < length s → f ≡ p b → f ≡ true → at' ≡ at + 1 → x' ≡ g x b → Going p g s at₀ x₀ at' x'
   going_on {at = at} {b = b} {x = x} {f = f} e v l t n u w =
-      let k : p (get_or s at 0) ≡ true = rw v at (sym t ∙ not-false f n) in
+      let k : p (get_or s at 0) ≡ true = rw v at (sym t ∙ n) in
       record {
         after = omega (arith, e.after);
         within = omega arith;
@@ -137,9 +137,9 @@ module _ {S : Type 0} {p : ℕ → Bool} {g : S → ℕ → S} {s : List ℕ} wh
       }
 
   -- where it stops
-  stops : {at₀ at b : ℕ} {x₀ x : S} {f : Bool} → Going p g s at₀ x₀ at x → b ≡ get_or s at 0 → at < length s → f ≡ p b → not f ≡ true → eat p g x₀ (drop at₀ s) ≡ (x, drop at s)
+  stops : {at₀ at b : ℕ} {x₀ x : S} {f : Bool} → Going p g s at₀ x₀ at x → b ≡ get_or s at 0 → at < length s → f ≡ p b → f ≡ false → eat p g x₀ (drop at₀ s) ≡ (x, drop at s)
   stops {at = at} {x = x} {f = f} e v l t n =
-      let k : p (get_or s at 0) ≡ false = rw v at (sym t ∙ not-true f n) in
+      let k : p (get_or s at 0) ≡ false = rw v at (sym t ∙ n) in
       sym e.same ∙ rw (drop-cons s at 0 l) (eat_stop p g x (get_or s at 0) (drop (suc at) s) k)
 
   ends : {at₀ at : ℕ} {x₀ x : S} → Going p g s at₀ x₀ at x → length s ≤ at → eat p g x₀ (drop at₀ s) ≡ (x, drop at s)
@@ -151,7 +151,7 @@ module _ {S : Type 0} {p : ℕ → Bool} {g : S → ℕ → S} {s : List ℕ} wh
       let q : eat p g x₀ (left s at₀) ≡ (x, left s at) = eat_bytes p g none x₀ (drop at₀ s) ∙ ap (λ (r : S × List ℕ). (r.0, chars r.1)) h in
       record { place = record { after = e.after; within = e.within; there = ap (λ (r : S × List ℕ). r.1) (sym q) }; state = ap (λ (r : S × List ℕ). r.0) (sym q) }
 
-  pub going_halt : {at₀ at b : ℕ} {x₀ x : S} {f : Bool} → ((c : ℕ) → 0x80 ≤ c → p c ≡ false) → Going p g s at₀ x₀ at x → b ≡ get_or s at 0 → at < length s → f ≡ p b → not f ≡ true → Ate p g s at₀ x₀ at x
+  pub going_halt : {at₀ at b : ℕ} {x₀ x : S} {f : Bool} → ((c : ℕ) → 0x80 ≤ c → p c ≡ false) → Going p g s at₀ x₀ at x → b ≡ get_or s at 0 → at < length s → f ≡ p b → f ≡ false → Ate p g s at₀ x₀ at x
   going_halt none e v l t n = ate_of none e (stops e v l t n)
 
   pub going_end : {at₀ at : ℕ} {x₀ x : S} → ((c : ℕ) → 0x80 ≤ c → p c ≡ false) → Going p g s at₀ x₀ at x → length s ≤ at → Ate p g s at₀ x₀ at x
@@ -164,7 +164,7 @@ module _ {p : ℕ → Bool} {s : List ℕ} (all : (c : ℕ) → 0x80 ≤ c → p
   skipped_of {at₀} {at} e h =
       record { after = e.after; within = e.within; there = ap (λ (r : Unit {0} × List ℕ). chars r.1) (sym h) ∙ sym (skip_bytes p all (drop at₀ s)) }
 
-  pub skip_halt : {at₀ at b : ℕ} {f : Bool} → Going p keep s at₀ tt at tt → b ≡ get_or s at 0 → at < length s → f ≡ p b → not f ≡ true → Place s at₀ at (skip p (left s at₀))
+  pub skip_halt : {at₀ at b : ℕ} {f : Bool} → Going p keep s at₀ tt at tt → b ≡ get_or s at 0 → at < length s → f ≡ p b → f ≡ false → Place s at₀ at (skip p (left s at₀))
   skip_halt e v l t n = skipped_of e (stops e v l t n)
 
   pub skip_end : {at₀ at : ℕ} → Going p keep s at₀ tt at tt → length s ≤ at → Place s at₀ at (skip p (left s at₀))
@@ -177,10 +177,10 @@ ascii_decoded {s} {at} {b} v l h =
     record { code_is = ap (λ (r : ℕ × ℕ). r.0) (sym e); wide_is = ap (λ (r : ℕ × ℕ). r.1) (sym e) }
 
 module _ {S : Type 0} {p : ℕ → Bool} {g : S → ℕ → S} {s : List ℕ} {at₀ at b : ℕ} {x₀ x : S} {f : Bool} (e : Eating p g s at₀ x₀ at x) (v : b ≡ get_or s at 0) (l : at < length s) (h : b < 0x80) (t : f ≡ p b) where
-  pub ascii_on : {at' : ℕ} {x' : S} → not f ≡ false → at' ≡ at + 1 → x' ≡ g x b → Eating p g s at₀ x₀ at' x'
+  pub ascii_on : {at' : ℕ} {x' : S} → f ≡ true → at' ≡ at + 1 → x' ≡ g x b → Eating p g s at₀ x₀ at' x'
   ascii_on n u w = go_on e (ascii_decoded v l h) l t n u w
 
-pub ascii_halt : {p : ℕ → Bool} {s : List ℕ} {at₀ at b : ℕ} {f : Bool} → Eating p keep s at₀ tt at tt → b ≡ get_or s at 0 → at < length s → b < 0x80 → f ≡ p b → not f ≡ true → Place s at₀ at (skip p (left s at₀))
+pub ascii_halt : {p : ℕ → Bool} {s : List ℕ} {at₀ at b : ℕ} {f : Bool} → Eating p keep s at₀ tt at tt → b ≡ get_or s at 0 → at < length s → b < 0x80 → f ≡ p b → f ≡ false → Place s at₀ at (skip p (left s at₀))
 ascii_halt e v l h t n = halt_skip e (ascii_decoded v l h) l t n
 
 pub ruleset ascii = (ascii_on, ascii_halt)

@@ -111,11 +111,11 @@ module _ {a b c d r : ℕ} where
         lead = e;
       }
 
-  pub stood_lead : {t : Bool} → t ≡ may_stand a b c d → not t ≡ false → d ≡ 0xE2 → r ≡ 0xF4 → Stood a b c d r
-  stood_lead {t} p q v e = stood (sym p ∙ not-false t q) (omega arith) (λ l g. absurd (omega arith))
+  pub stood_lead : {t : Bool} → t ≡ may_stand a b c d → t ≡ true → d ≡ 0xE2 → r ≡ 0xF4 → Stood a b c d r
+  stood_lead {t} p q v e = stood (sym p ∙ q) (omega arith) (λ l g. absurd (omega arith))
 
-  pub stood_other : {t : Bool} → t ≡ may_stand a b c d → not t ≡ false → (d ≡ 0xE2 → ⊥) → r ≡ d → Stood a b c d r
-  stood_other {t} p q n e = stood (sym p ∙ not-false t q) (omega arith) (λ l g. n g)
+  pub stood_other : {t : Bool} → t ≡ may_stand a b c d → t ≡ true → (d ≡ 0xE2 → ⊥) → r ≡ d → Stood a b c d r
+  stood_other {t} p q n e = stood (sym p ∙ q) (omega arith) (λ l g. n g)
 
   -- and no less for a larger number
   pub stood_up : {r' : ℕ} → Stood a b c d r → r ≤ r' → Stood a b c d r'
@@ -304,8 +304,8 @@ module _ (barred : Bool) (s : List ℕ) (at m : ℕ) (long : at + 35 ≤ length 
   passed_wide f = go 32 at (omega arith) (omega arith) (omega arith) f (passed_none (omega arith))
 
 -- as `search` takes it from what a need knows
-pub walk_wide : {barred : Bool} {s : List ℕ} {from at m n r : ℕ} {t u : Bool} → at ≡ from - 3 → 3 ≤ from → 32 ≤ length s - from → t ≡ free (get_or s at 0) (get_or s (at + 1) 0) (get_or s (at + 2) 0) → not t ≡ false → ((k : ℕ) → k < 32 → Stood (get_or s (at + k) 0) (get_or s (at + k + 1) 0) (get_or s (at + k + 2) 0) (get_or s (at + k + 3) 0) m) → m ≤ 0xF4 → (u ≡ false → barred ≡ true → Clear s at) → u ≡ false → n ≡ whole (get_or s (at + 32) 0) (get_or s (at + 33) 0) (get_or s (at + 34) 0) → r ≡ from + n → Passed (stops barred) s from r
+pub walk_wide : {barred : Bool} {s : List ℕ} {from at m n r : ℕ} {t u : Bool} → at ≡ from - 3 → 3 ≤ from → 32 ≤ length s - from → t ≡ free (get_or s at 0) (get_or s (at + 1) 0) (get_or s (at + 2) 0) → t ≡ true → ((k : ℕ) → k < 32 → Stood (get_or s (at + k) 0) (get_or s (at + k + 1) 0) (get_or s (at + k + 2) 0) (get_or s (at + k + 3) 0) m) → m ≤ 0xF4 → (u ≡ false → barred ≡ true → Clear s at) → u ≡ false → n ≡ whole (get_or s (at + 32) 0) (get_or s (at + 33) 0) (get_or s (at + 34) 0) → r ≡ from + n → Passed (stops barred) s from r
 walk_wide {barred} {s} {from} {at} {m} {n} {r} {t} e g l f x h k b y w q =
     let i : from ≡ at + 3 = omega arith in
-    let p = passed_wide barred s at m (omega arith) k (b y) h (sym f ∙ not-false t x) in
+    let p = passed_wide barred s at m (omega arith) k (b y) h (sym f ∙ x) in
     rw (q, w, i) p

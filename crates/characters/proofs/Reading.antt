@@ -15,11 +15,11 @@ use Rattle.characters.specs.Text.{Decoded}
 use Rattle.characters.proofs.Rows.{first_1, first_gap, first_over, first_2, first_3, first_4}
 
 -- ---- the flags
-passes : {t x : Bool} → t ≡ x → not t ≡ false → x ≡ true
-passes {t} e f = sym e ∙ not-false t f
+passes : {t x : Bool} → t ≡ x → t ≡ true → x ≡ true
+passes {t} e f = sym e ∙ f
 
-fails : {t x : Bool} → t ≡ x → not t ≡ true → x ≡ false
-fails {t} e f = sym e ∙ not-true t f
+fails : {t x : Bool} → t ≡ x → t ≡ false → x ≡ false
+fails {t} e f = sym e ∙ f
 
 -- the test of a second byte, with the bounds as the code found them
 bounded : (a b : ℕ) {lo hi : ℕ} {t : Bool} → lo ≡ low a → hi ≡ high a → t ≡ in_range b (lo to hi) → t ≡ in_range b (low a to high a)
@@ -27,42 +27,42 @@ bounded a b p q e = rw (p, q) at e
 
 -- ---- two, three and four bytes
 module _ (a b : ℕ) {code wide : ℕ} {t : Bool} (e : t ≡ in_range b (0x80 to 0xBF)) where
-  pub two_no : not t ≡ true → Reads (no_char a, 1) code wide → Reads (two a b) code wide
+  pub two_no : t ≡ false → Reads (no_char a, 1) code wide → Reads (two a b) code wide
   unfolding two
   two_no f r = rw (fails e f) r
 
-  pub two_yes : not t ≡ false → code ≡ a % 32 * 64 + b % 64 → wide ≡ 2 → Reads (two a b) code wide
+  pub two_yes : t ≡ true → code ≡ a % 32 * 64 + b % 64 → wide ≡ 2 → Reads (two a b) code wide
   unfolding two
   two_yes f p q = rw (passes e f) (record { code_is = p; wide_is = q })
 
 module _ (a b : ℕ) {lo hi code wide : ℕ} {t : Bool} (p : lo ≡ low a) (q : hi ≡ high a) (e : t ≡ in_range b (lo to hi)) where
-  pub three_no : (c : ℕ) → not t ≡ true → Reads (no_char a, 1) code wide → Reads (three a b c) code wide
+  pub three_no : (c : ℕ) → t ≡ false → Reads (no_char a, 1) code wide → Reads (three a b c) code wide
   unfolding three
   three_no c f r = rw (fails (bounded a b p q e) f) r
 
-  pub four_no : (c d : ℕ) → not t ≡ true → Reads (no_char a, 1) code wide → Reads (four a b c d) code wide
+  pub four_no : (c d : ℕ) → t ≡ false → Reads (no_char a, 1) code wide → Reads (four a b c d) code wide
   unfolding four
   four_no c d f r = rw (fails (bounded a b p q e) f) r
 
-  module _ (c : ℕ) {u : Bool} (f : not t ≡ false) (g : u ≡ in_range c (0x80 to 0xBF)) where
-    pub three_no_2 : not u ≡ true → Reads (no_char a, 1) code wide → Reads (three a b c) code wide
+  module _ (c : ℕ) {u : Bool} (f : t ≡ true) (g : u ≡ in_range c (0x80 to 0xBF)) where
+    pub three_no_2 : u ≡ false → Reads (no_char a, 1) code wide → Reads (three a b c) code wide
     unfolding three
     three_no_2 h r = rw (passes (bounded a b p q e) f, fails g h) r
 
-    pub three_yes : not u ≡ false → code ≡ (a % 16 * 64 + b % 64) * 64 + c % 64 → wide ≡ 3 → Reads (three a b c) code wide
+    pub three_yes : u ≡ true → code ≡ (a % 16 * 64 + b % 64) * 64 + c % 64 → wide ≡ 3 → Reads (three a b c) code wide
     unfolding three
     three_yes h i j = rw (passes (bounded a b p q e) f, passes g h) (record { code_is = i; wide_is = j })
 
-    pub four_no_2 : (d : ℕ) → not u ≡ true → Reads (no_char a, 1) code wide → Reads (four a b c d) code wide
+    pub four_no_2 : (d : ℕ) → u ≡ false → Reads (no_char a, 1) code wide → Reads (four a b c d) code wide
     unfolding four
     four_no_2 d h r = rw (passes (bounded a b p q e) f, fails g h) r
 
-    module _ (d : ℕ) {v : Bool} (h : not u ≡ false) (k : v ≡ in_range d (0x80 to 0xBF)) where
-      pub four_no_3 : not v ≡ true → Reads (no_char a, 1) code wide → Reads (four a b c d) code wide
+    module _ (d : ℕ) {v : Bool} (h : u ≡ true) (k : v ≡ in_range d (0x80 to 0xBF)) where
+      pub four_no_3 : v ≡ false → Reads (no_char a, 1) code wide → Reads (four a b c d) code wide
       unfolding four
       four_no_3 m r = rw (passes (bounded a b p q e) f, passes g h, fails k m) r
 
-      pub four_yes : not v ≡ false → code ≡ ((a % 8 * 64 + b % 64) * 64 + c % 64) * 64 + d % 64 → wide ≡ 4 → Reads (four a b c d) code wide
+      pub four_yes : v ≡ true → code ≡ ((a % 8 * 64 + b % 64) * 64 + c % 64) * 64 + d % 64 → wide ≡ 4 → Reads (four a b c d) code wide
       unfolding four
       four_yes m i j = rw (passes (bounded a b p q e) f, passes g h, passes k m) (record { code_is = i; wide_is = j })
 

@@ -149,12 +149,12 @@ skip_stop p c t h = ap (λ (r : Unit {0} × List ℕ). r.1) (eat_stop p keep tt 
 
 -- the law as `search` takes it from what a need knows: `decode` was called before the end, and the test's answer is a flag of the code
 module _ {S : Type 0} {p : ℕ → Bool} {g : S → ℕ → S} {s : List ℕ} where
-  pub go_on : {at₀ at at' code wide : ℕ} {x₀ x x' : S} {b : Bool} → Eating p g s at₀ x₀ at x → Decoded s at code wide → at < length s → b ≡ p code → not b ≡ false →
+  pub go_on : {at₀ at at' code wide : ℕ} {x₀ x x' : S} {b : Bool} → Eating p g s at₀ x₀ at x → Decoded s at code wide → at < length s → b ≡ p code → b ≡ true →
       at' ≡ at + wide → x' ≡ g x code → Eating p g s at₀ x₀ at' x'
-  go_on {b = b} e d l f t u v = rw (u, v) (eating_more p g s e (decoded_point d l) (sym f ∙ not-false b t))
+  go_on {b = b} e d l f t u v = rw (u, v) (eating_more p g s e (decoded_point d l) (sym f ∙ t))
 
-  pub halt : {at₀ at code wide : ℕ} {x₀ x : S} {b : Bool} → Eating p g s at₀ x₀ at x → Decoded s at code wide → at < length s → b ≡ p code → not b ≡ true → Ate p g s at₀ x₀ at x
-  halt {b = b} e d l f t = eating_stop p g s e (decoded_point d l) (sym f ∙ not-true b t)
+  pub halt : {at₀ at code wide : ℕ} {x₀ x : S} {b : Bool} → Eating p g s at₀ x₀ at x → Decoded s at code wide → at < length s → b ≡ p code → b ≡ false → Ate p g s at₀ x₀ at x
+  halt {b = b} e d l f t = eating_stop p g s e (decoded_point d l) (sym f ∙ t)
 
   pub none_yet : {at : ℕ} {x : S} → at ≤ length s → Eating p g s at x at x
   none_yet {at} {x} h = eating_none p g s at x h
@@ -164,7 +164,7 @@ module _ {S : Type 0} {p : ℕ → Bool} {g : S → ℕ → S} {s : List ℕ} wh
 
 -- the same for a loop with no state
 module _ {p : ℕ → Bool} {s : List ℕ} where
-  pub halt_skip : {at₀ at code wide : ℕ} {b : Bool} → Eating p keep s at₀ tt at tt → Decoded s at code wide → at < length s → b ≡ p code → not b ≡ true → Place s at₀ at (skip p (left s at₀))
+  pub halt_skip : {at₀ at code wide : ℕ} {b : Bool} → Eating p keep s at₀ tt at tt → Decoded s at code wide → at < length s → b ≡ p code → b ≡ false → Place s at₀ at (skip p (left s at₀))
   halt_skip e d l f t = skipped (halt e d l f t)
 
   pub end_skip : {at₀ at : ℕ} → Eating p keep s at₀ tt at tt → length s ≤ at → Place s at₀ at (skip p (left s at₀))

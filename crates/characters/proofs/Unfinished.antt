@@ -105,27 +105,27 @@ module _ (n a b c : ℕ) where
     is : in_range b (low a to high a) ≡ t
     is = rw (l, h) at (sym e)
 
-    pub begun_wrong : not t ≡ true → false ≡ begun n a b c
+    pub begun_wrong : t ≡ false → false ≡ begun n a b c
     unfolding begun
-    begun_wrong z = rw (ne_eqb n 1 m, is, not-true t z)
+    begun_wrong z = rw (ne_eqb n 1 m, is, z)
 
-    module _ (g : not t ≡ false) where
+    module _ (g : t ≡ true) where
       pub begun_two : {r : Bool} → n ≡ 2 → r ≡ in_range a (0xE0 to 0xF4) → r ≡ begun n a b c
       unfolding begun
-      begun_two k z = rw (ne_eqb n 1 m, is, not-false t g, eq-eqb n 2 k) z
+      begun_two k z = rw (ne_eqb n 1 m, is, g, eq-eqb n 2 k) z
 
       pub begun_many : (n ≡ 2 → ⊥) → (n ≡ 3 → ⊥) → false ≡ begun n a b c
       unfolding begun
-      begun_many k z = rw (ne_eqb n 1 m, is, not-false t g, ne_eqb n 2 k, ne_eqb n 3 z)
+      begun_many k z = rw (ne_eqb n 1 m, is, g, ne_eqb n 2 k, ne_eqb n 3 z)
 
       module _ (k : n ≡ 3) {v : Bool} (w : v ≡ in_range a (0xF0 to 0xF4)) where
-        pub begun_low : not v ≡ true → false ≡ begun n a b c
+        pub begun_low : v ≡ false → false ≡ begun n a b c
         unfolding begun
-        begun_low z = rw (k, is, not-false t g, sym w ∙ not-true v z)
+        begun_low z = rw (k, is, g, sym w ∙ z)
 
-        pub begun_three : {r : Bool} → not v ≡ false → r ≡ in_range c (0x80 to 0xBF) → r ≡ begun n a b c
+        pub begun_three : {r : Bool} → v ≡ true → r ≡ in_range c (0x80 to 0xBF) → r ≡ begun n a b c
         unfolding begun
-        begun_three z q = rw (k, is, not-false t g, sym w ∙ not-false v z) q
+        begun_three z q = rw (k, is, g, sym w ∙ z) q
 
 pub ruleset begins = (begun_one, begun_wrong, begun_two, begun_many, begun_low, begun_three)
 

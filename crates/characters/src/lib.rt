@@ -1,2 +1,4 @@
 // UTF-8.
+#![tactic(auto)]
+
 pub mod utf8;

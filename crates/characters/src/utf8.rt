@@ -16,7 +16,7 @@ const BLOCK: usize = 32;
 // A character, and how many bytes it takes. A byte that begins no well-formed sequence is read as no character: NO_CHAR
 // more than the byte, one byte wide.
 #[repr(C)]
-#[derive(Drop)]
+#[derive(Clone, Copy)]
 pub struct Char {
     pub code: u32,
     pub wide: usize,

@@ -1,8 +1,9 @@
 // The records of tokens, for every cutter and every list of them.
+#![tactic(auto)]
 
 // A token: its kind, the place where its suffix starts (of a literal with none, its end; of all else, its own start), how far into it its
 // first misplaced underscore stands, 0 for none, and its end.
-#[derive(Drop)]
+#[derive(Clone, Copy)]
 pub struct Piece {
     pub kind: u32,
     pub suffix: usize,

@@ -21,7 +21,7 @@ use Rattle.characters.specs.Direction.{is_direction, unmarked, unmarked_up_to}
 use Rattle.characters.proofs.Text.{bytes_chars}
 use Rattle.characters.proofs.Valid.{valid_within}
 use Rattle.characters.proofs.Direction.{marked_before}
-use Rattle.text.specs.Answer.{done, unknown_selector, too_long, longest, check_room, ◌andThen◌}
+use Rattle.text.specs.Answer.{done, unknown_selector, too_long, longest, check_room, ◌and_then◌}
 use Rattle.cutters.specs.Records.{record_words}
 use Rattle.feeding.specs.Begun.{whole, beyond, fault_of}
 use Rattle.feeding.specs.Lexer.{Lexer, started, running}

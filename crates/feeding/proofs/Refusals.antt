@@ -14,7 +14,7 @@ use Rattle.lists.proofs.Bools.{by_test}
 use Rattle.characters.specs.Utf8.{valid_up_to}
 use Rattle.characters.specs.Unfinished.{unfinished}
 use Rattle.characters.specs.Direction.{unmarked, unmarked_up_to}
-use Rattle.text.specs.Answer.{done, unknown_selector, too_long, not_utf8, room_too_small, direction_mark, longest, check_room, ◌andThen◌}
+use Rattle.text.specs.Answer.{done, unknown_selector, too_long, not_utf8, room_too_small, direction_mark, longest, check_room, ◌and_then◌}
 use Rattle.cutters.specs.Records.{record_words}
 use Rattle.feeding.specs.Begun.{whole, beyond, fault_of}
 use Rattle.feeding.specs.Lexer.{Lexer, running}

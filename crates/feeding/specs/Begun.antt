@@ -4,7 +4,7 @@ use Rattle.std.specs.Prelude.{ℕ, ◌+◌, Bool, cond, List, eqb, length, take,
 use Rattle.characters.specs.Utf8.{valid_up_to}
 use Rattle.characters.specs.Unfinished.{unfinished}
 use Rattle.characters.specs.Direction.{unmarked, unmarked_up_to}
-use Rattle.text.specs.Answer.{done, not_utf8, direction_mark, ◌andThen◌}
+use Rattle.text.specs.Answer.{done, not_utf8, direction_mark, ◌and_then◌}
 
 abbrev pub whole : List ℕ → List ℕ
 whole s = take (valid_up_to s) s

@@ -3,7 +3,7 @@
 use Rattle.std.specs.Prelude.{ℕ, zero, suc, ◌+◌, ◌-◌, ◌/◌, Bool, true, false, not, cond, ◌&&◌, ◌||◌, List, [], ◌∷◌, ◌++◌, eqb, leb, ltb, length, take, get_or}
 use Rattle.lists.specs.Over.{over}
 use Rattle.characters.specs.Utf8.{chars}
-use Rattle.text.specs.Answer.{done, unknown_selector, too_long, not_utf8, direction_mark, longest, check_room, ◌andThen◌}
+use Rattle.text.specs.Answer.{done, unknown_selector, too_long, not_utf8, direction_mark, longest, check_room, ◌and_then◌}
 use Rattle.cutters.specs.Records.{record_words}
 use Rattle.lexer.specs.Unicode.{unicode}
 use Rattle.feeding.specs.Fed.{Rec, words, State, idle, feeds, finish}

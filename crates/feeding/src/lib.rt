@@ -1,1 +1,2 @@
 // Theorems on what the cut of a token depends on: no code.
+#![tactic(auto)]

@@ -1,4 +1,6 @@
 // The tests on single characters: white space, and what begins an identifier or goes on with it.
+#![tactic(auto)]
+
 ghost use Rattle.std.specs.Prelude.{◌≡◌, ◌<◌};
 ghost use Rattle.letters.specs.Chars.{is_whitespace, is_id_start, is_id_continue};
 

@@ -25,24 +25,24 @@ use Rattle.lexer.proofs.Bytewise.{peek_same, peek_ascii, tail_same, tail_less, p
 
 -- ---- the flag, by the tests that lead to it
 module _ (closed plain : Bool) (lines prev : ℕ) where
-  pub bits_none : not plain ≡ true → false ≡ bits_by closed plain lines prev
-  bits_none t = rw (not-true plain t)
+  pub bits_none : plain ≡ false → false ≡ bits_by closed plain lines prev
+  bits_none t = rw (t)
 
-  pub bits_zero : not plain ≡ false → lines ≡ 0 → true ≡ bits_by closed plain lines prev
-  bits_zero t z = rw (not-false plain t, eq-eqb lines 0 z) (either closed)
+  pub bits_zero : plain ≡ true → lines ≡ 0 → true ≡ bits_by closed plain lines prev
+  bits_zero t z = rw (t, eq-eqb lines 0 z) (either closed)
     where
       either : (b : Bool) → true ≡ cond b true true
       either true = refl
       either false = refl
 
-  pub bits_shut : not plain ≡ false → (lines ≡ 0 → ⊥) → closed ≡ true → false ≡ bits_by closed plain lines prev
-  bits_shut t n e = rw (not-false plain t, ne_eqb lines 0 n, e)
+  pub bits_shut : plain ≡ true → (lines ≡ 0 → ⊥) → closed ≡ true → false ≡ bits_by closed plain lines prev
+  bits_shut t n e = rw (t, ne_eqb lines 0 n, e)
 
-  pub bits_one : {r : Bool} → not plain ≡ false → (lines ≡ 0 → ⊥) → closed ≡ false → lines ≡ 1 → r ≡ eqb prev 0x0A → r ≡ bits_by closed plain lines prev
-  bits_one t n e o h = rw (not-false plain t, ne_eqb lines 0 n, e, eq-eqb lines 1 o) h
+  pub bits_one : {r : Bool} → plain ≡ true → (lines ≡ 0 → ⊥) → closed ≡ false → lines ≡ 1 → r ≡ eqb prev 0x0A → r ≡ bits_by closed plain lines prev
+  bits_one t n e o h = rw (t, ne_eqb lines 0 n, e, eq-eqb lines 1 o) h
 
-  pub bits_many : not plain ≡ false → (lines ≡ 0 → ⊥) → closed ≡ false → (lines ≡ 1 → ⊥) → false ≡ bits_by closed plain lines prev
-  bits_many t n e o = rw (not-false plain t, ne_eqb lines 0 n, e, ne_eqb lines 1 o)
+  pub bits_many : plain ≡ true → (lines ≡ 0 → ⊥) → closed ≡ false → (lines ≡ 1 → ⊥) → false ≡ bits_by closed plain lines prev
+  bits_many t n e o = rw (t, ne_eqb lines 0 n, e, ne_eqb lines 1 o)
 
 pub ruleset bits = (bits_none, bits_zero, bits_shut, bits_one, bits_many)
 

@@ -24,7 +24,7 @@ unfolding not_lf
 not_lf_wide c h = rw (ne_eqb c 0x0A (λ e. omega arith))
 
 module _ {s : List ℕ} {at₀ at b : ℕ} {f : Bool} where
-  pub line_halt : Going not_lf keep s at₀ tt at tt → b ≡ get_or s at 0 → at < length s → f ≡ not_lf b → not f ≡ true → Place s at₀ at (skip not_lf (left s at₀))
+  pub line_halt : Going not_lf keep s at₀ tt at tt → b ≡ get_or s at 0 → at < length s → f ≡ not_lf b → f ≡ false → Place s at₀ at (skip not_lf (left s at₀))
   line_halt = skip_halt not_lf_wide
 
 -- a run of ASCII stops at the end, at what is not ASCII, or where the test fails
@@ -36,8 +36,8 @@ module _ {p : ℕ → Bool} {s : List ℕ} {at₀ at : ℕ} (e : Eating p keep s
   pub ran_wide : {b : ℕ} → b ≡ get_or s at 0 → 0x80 ≤ b → Ran p s at₀ at
   ran_wide v h = ran (λ l k. absurd (omega arith))
 
-  pub ran_halt : {b : ℕ} {f : Bool} → b ≡ get_or s at 0 → f ≡ p b → not f ≡ true → Ran p s at₀ at
-  ran_halt {b} {f} v t n = ran (λ l k. rw (← v) (sym t ∙ not-true f n))
+  pub ran_halt : {b : ℕ} {f : Bool} → b ≡ get_or s at 0 → f ≡ p b → f ≡ false → Ran p s at₀ at
+  ran_halt {b} {f} v t n = ran (λ l k. rw (← v) (sym t ∙ n))
 
   pub ran_end : length s ≤ at → Ran p s at₀ at
   ran_end l = ran (λ h k. absurd (omega arith))

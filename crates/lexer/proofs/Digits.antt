@@ -72,17 +72,17 @@ module _ (base : ℕ) {s : List ℕ} {at end kind before own found : ℕ} {any :
 
 -- ---- behind a point
 module _ (base : ℕ) (s : List ℕ) (at : ℕ) {x before : ℕ} {b : Bool} (f : x ≡ peek (left s at)) (o : b ≡ is_digit x) where
-  pub point_none : {kind : ℕ} → not b ≡ true → at ≤ length s → kind ≡ 48 + 2 * base → Read (point base) s at before kind before at
+  pub point_none : {kind : ℕ} → b ≡ false → at ≤ length s → kind ≡ 48 + 2 * base → Read (point base) s at before kind before at
   unfolding point
   point_none t l k =
-      let h : is_digit (peek (left s at)) ≡ false = rw f at (sym o ∙ not-true b t) in
+      let h : is_digit (peek (left s at)) ≡ false = rw f at (sym o ∙ t) in
       record { part = parted (point base) s at (float base false, left s at) (rw h) (omega arith) (stay l); first = misplaced_none }
 
-  module _ {e y own found : ℕ} {any c : Bool} (t : not b ≡ false) (q : Run is_digit false s at any own e) (w : found ≡ first_of before own) (g : y ≡ peek (left s e)) (o' : c ≡ is_e y) where
+  module _ {e y own found : ℕ} {any c : Bool} (t : b ≡ true) (q : Run is_digit false s at any own e) (w : found ≡ first_of before own) (g : y ≡ peek (left s e)) (o' : c ≡ is_e y) where
     pub point_digits : {kind : ℕ} → c ≡ false → kind ≡ 48 + 2 * base → Read (point base) s at before kind found e
     unfolding point
     point_digits u k =
-        let h : is_digit (peek (left s at)) ≡ true = rw f at (sym o ∙ not-false b t) in
+        let h : is_digit (peek (left s at)) ≡ true = rw f at (sym o ∙ t) in
         let d = ate_digits is_digit q.ate in
         let j : is_e (peek (digits is_digit (left s at)).1) ≡ false = rw (g, d.place.there) at (sym o' ∙ u) in
         record { part = parted (point base) s at (float base false, (digits is_digit (left s at)).1) (rw (h, j)) (omega arith) d.place; first = found_after q.first w }
@@ -90,7 +90,7 @@ module _ (base : ℕ) (s : List ℕ) (at : ℕ) {x before : ℕ} {b : Bool} (f :
     pub point_exponent : {a end kind last : ℕ} → c ≡ true → Place s e a (tail (left s e)) → Read (exponent_of base) s a found kind last end → Read (point base) s at before kind last end
     unfolding point
     point_exponent u p r =
-        let h : is_digit (peek (left s at)) ≡ true = rw f at (sym o ∙ not-false b t) in
+        let h : is_digit (peek (left s at)) ≡ true = rw f at (sym o ∙ t) in
         let d = ate_digits is_digit q.ate in
         let j : is_e (peek (digits is_digit (left s at)).1) ≡ true = rw (g, d.place.there) at (sym o' ∙ u) in
         let i = p.there ∙ ap tail d.place.there in
@@ -239,16 +239,16 @@ module _ (c : ℕ) (s : List ℕ) (at : ℕ) where
 
 -- ---- suffixes
 module _ (start more s : List ℕ) (at : ℕ) {x : ℕ} {b : Bool} (f : x ≡ peek (left s at)) (o : b ≡ start_in start x) where
-  pub identifier_none : not b ≡ true → at ≤ length s → Place s at at (identifier (start_in start) (more_in more) (left s at))
+  pub identifier_none : b ≡ false → at ≤ length s → Place s at at (identifier (start_in start) (more_in more) (left s at))
   unfolding identifier
   identifier_none t l =
-      let h : start_in start (peek (left s at)) ≡ false = rw f at (sym o ∙ not-true b t) in
+      let h : start_in start (peek (left s at)) ≡ false = rw f at (sym o ∙ t) in
       record { after = omega arith; within = l; there = rw h }
 
-  pub identifier_eaten : {a end : ℕ} → not b ≡ false → Place s at a (tail (left s at)) → Place s a end (skip (more_in more) (left s a)) → Place s at end (identifier (start_in start) (more_in more) (left s at))
+  pub identifier_eaten : {a end : ℕ} → b ≡ true → Place s at a (tail (left s at)) → Place s a end (skip (more_in more) (left s a)) → Place s at end (identifier (start_in start) (more_in more) (left s at))
   unfolding identifier
   identifier_eaten t p q =
-      let h : start_in start (peek (left s at)) ≡ true = rw f at (sym o ∙ not-false b t) in
+      let h : start_in start (peek (left s at)) ≡ true = rw f at (sym o ∙ t) in
       rw h (from_place p q (ap (skip (more_in more)) p.there))
 
 module _ (start more s : List ℕ) (at : ℕ) {b : Bool} (o : b ≡ is_unit (peek (left s at)) (peek (tail (left s at)))) where

@@ -21,11 +21,11 @@ module _ (x q : Bool) {b : Bool} where
 
 -- the same where the flag is tested by its negation
 module _ (x q : Bool) where
-  pub not_and : not x ≡ true → false ≡ (x && q)
-  not_and t = rw (not-true x t)
+  pub not_and : x ≡ false → false ≡ (x && q)
+  not_and t = rw (t)
 
-  pub not_and_then : {r : Bool} → not x ≡ false → r ≡ q → r ≡ (x && q)
-  not_and_then t h = rw (not-false x t) h
+  pub not_and_then : {r : Bool} → x ≡ true → r ≡ q → r ≡ (x && q)
+  not_and_then t h = rw (t) h
 
 module _ (c k : ℕ) (q : Bool) where
   pub is_or : c ≡ k → true ≡ (eqb c k || q)

@@ -60,11 +60,11 @@ module _ (p q : ℕ → Bool) (s : List ℕ) where
     unfolding ident_by
     ident_is = ap (ident_by p q) (decoded_point d (omega arith)).view ∙ rw zero-add
 
-    pub ident_not : not b ≡ true → false ≡ ident_by p q (chars s)
-    ident_not h = rw (ident_is, ← t, not-true b h)
+    pub ident_not : b ≡ false → false ≡ ident_by p q (chars s)
+    ident_not h = rw (ident_is, ← t, h)
 
-    pub ident_by_lem : {end : ℕ} {r : Bool} → not b ≡ false → Place s wide end (skip q (left s wide)) → r ≡ eqb end (length s) → r ≡ ident_by p q (chars s)
-    ident_by_lem h k e = rw (ident_is, ← t, not-false b h) (e ∙ sym (all_by q k))
+    pub ident_by_lem : {end : ℕ} {r : Bool} → b ≡ true → Place s wide end (skip q (left s wide)) → r ≡ eqb end (length s) → r ≡ ident_by p q (chars s)
+    ident_by_lem h k e = rw (ident_is, ← t, h) (e ∙ sym (all_by q k))
 
 -- over the constants
 pub ident_lent : (s : List ℕ) {r : Bool} → r ≡ ident_by (start_in (flat xid_start)) (more_in (flat xid_continue)) (chars s) → r ≡ is_ident (chars s)

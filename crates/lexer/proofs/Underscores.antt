@@ -156,23 +156,23 @@ module _ {digit : ℕ → Bool} {hex : Bool} (q : Digital digit) {s : List ℕ} 
       let o : any ≡ met digit any b = rw (z, q.underscore, or_false) in
       further n (rw z) u (w ∙ o) (g ∙ f)
 
-  pub reading_digit : {f any' : Bool} {at' found' : ℕ} → (b ≡ 0x5F → ⊥) → f ≡ digit b → not f ≡ false → any' ≡ true → found' ≡ found → at' ≡ at + 1 → Reading digit hex s at₀ any₀ found₀ at' any' found'
+  pub reading_digit : {f any' : Bool} {at' found' : ℕ} → (b ≡ 0x5F → ⊥) → f ≡ digit b → f ≡ true → any' ≡ true → found' ≡ found → at' ≡ at + 1 → Reading digit hex s at₀ any₀ found₀ at' any' found'
   reading_digit {f} n g t w i u =
-      let d : digit b ≡ true = sym g ∙ not-false f t in
+      let d : digit b ≡ true = sym g ∙ t in
       let m : b ≡ 0x2E → ⊥ = λ y. false≢true (sym q.point ∙ ap digit (sym y) ∙ d) in
       let o : misplaced (digit_by hex) s at ≡ false = rw (← v, ne_eqb b 0x5F n) in
       further m (rw (d, or_true)) u (w ∙ rw (d, or_true)) (i ∙ rw (o, first_none))
 
 -- where it stops
 module _ {digit : ℕ → Bool} {hex : Bool} {s : List ℕ} {at₀ at : ℕ} {any : Bool} {found : ℕ} (q : Digital digit) (e : Reading digit hex s at₀ false 0 at any found) where
-  pub reading_halt : {b : ℕ} {f : Bool} → b ≡ get_or s at 0 → at < length s → (b ≡ 0x5F → ⊥) → f ≡ digit b → not f ≡ true → Run digit hex s at₀ any found at
+  pub reading_halt : {b : ℕ} {f : Bool} → b ≡ get_or s at 0 → at < length s → (b ≡ 0x5F → ⊥) → f ≡ digit b → f ≡ false → Run digit hex s at₀ any found at
   reading_halt {b} {f} v l n g t =
       let o : f ≡ or_underscore digit b = rw (ne_eqb b 0x5F n) g in
       record {
         ate = going_halt q.wide e.going v l o t;
         first = e.first;
         no_point = e.no_point;
-        stop = rw v at (sym g ∙ not-true f t);
+        stop = rw v at (sym g ∙ t);
       }
 
   pub reading_end : length s ≤ at → Run digit hex s at₀ any found at

@@ -2,7 +2,7 @@
 -- Assumes nothing.
 use Rattle.std.specs.Prelude.{ℕ, ◌+◌, ◌≡◌, Bool, cond, List, [], ◌∷◌, ltb, drop}
 use Rattle.characters.specs.Utf8.{chars}
-use Rattle.text.specs.Answer.{done, check_text, ◌andThen◌}
+use Rattle.text.specs.Answer.{done, check_text, ◌and_then◌}
 use Rattle.letters.specs.Chars.{is_ident}
 use Rattle.cutters.specs.Kinds.{eof}
 use Rattle.cutters.specs.Records.{Token, misplaced_at}

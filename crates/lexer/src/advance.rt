@@ -10,8 +10,8 @@ use crate::kinds;
 use crate::numbers::{Figures, eat_literal_suffix, has_timing_or_imaginary_suffix, number};
 use crate::quotes::double_quoted_string;
 use crate::words::{annotation, hardware_ident, ident_or_unknown_prefix, pound};
-use cutters::Piece;
 use characters::utf8::decode;
+use cutters::Piece;
 
 // A token that is no literal: its suffix is told at its own start.
 fn plain(at: usize, kind: u32, end: Cursor) -> Piece

@@ -7,14 +7,14 @@ use crate::cursor::{Cursor, byte};
 use crate::kinds;
 
 // A kind, and the cursor behind the token.
-#[derive(Drop)]
+#[derive(Clone, Copy)]
 pub struct Part {
     pub kind: u32,
     pub cursor: Cursor,
 }
 
 // Whether a block comment is closed, and the cursor behind it.
-#[derive(Drop)]
+#[derive(Clone, Copy)]
 pub struct Block {
     pub closed: bool,
     pub cursor: Cursor,

@@ -12,18 +12,18 @@ ghost use Rattle.lexer.specs.Cut.{not_lf, wide_emoji, goes_on};
 ghost use Rattle.lexer.specs.Unicode.{start_in, more_in, emoji_in};
 ghost use Rattle.lexer.specs.Steps.{Ran, Run};
 
+use characters::utf8::{code, decode};
 use letters::is_whitespace;
 use ucd::{is_emoji_in, is_xid_continue_in, is_xid_start_in};
-use characters::utf8::{code, decode};
 
-#[derive(Drop)]
+#[derive(Clone, Copy)]
 pub struct Cursor {
     pub at: usize,
 }
 
 // What a digit reader says of its run: whether there was a digit, the place of its first misplaced underscore, 0 for none, and the
 // cursor behind it.
-#[derive(Drop)]
+#[derive(Clone, Copy)]
 pub struct Digits {
     pub any: bool,
     pub misplaced: usize,

@@ -1,4 +1,6 @@
 // The lexer: how OpenQASM 3 text is cut into tokens, one at a place.
+#![tactic(auto)]
+
 ghost use Rattle.std.specs.Prelude.{◌≡◌};
 ghost use Rattle.characters.specs.Utf8.{chars};
 ghost use Rattle.text.specs.Answer.{Answered};
@@ -15,6 +17,7 @@ mod quotes;
 mod words;
 
 pub use advance::advance_token;
+use characters::utf8::decode;
 use cursor::Cursor;
 pub use cursor::{
     goes_on, is_digit, is_digit_by, is_hex_digit, is_id_start_in, is_wide_emoji, not_lf,
@@ -23,7 +26,6 @@ pub use letters::{is_id_continue, is_id_start, is_whitespace};
 pub use numbers::{is_e, is_sign, is_unit};
 use text::{Answer, check_text};
 use ucd::tables;
-use characters::utf8::decode;
 
 // Over tables of the letters that are lent.
 fn is_ident_in(text: &[u8], start: &[u32], more: &[u32]) -> bool

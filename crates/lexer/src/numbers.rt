@@ -12,7 +12,7 @@ use crate::cursor::{Cursor, Digits, first_of, is_digit, is_id_start_in};
 use crate::kinds;
 
 // What holds digits: its kind, the place of its first misplaced underscore, 0 for none, and the cursor behind it.
-#[derive(Drop)]
+#[derive(Clone, Copy)]
 pub struct Figures {
     pub kind: u32,
     pub misplaced: usize,

@@ -7,7 +7,7 @@ ghost use Rattle.lexer.specs.Steps.{Quoted, Added, bits_by};
 use crate::cursor::{Cursor, byte};
 use crate::kinds;
 
-#[derive(Drop)]
+#[derive(Clone, Copy)]
 pub struct Quote {
     pub closed: bool,
     pub kind: u32,
@@ -17,7 +17,7 @@ pub struct Quote {
 // What was seen of a quoted text: whether all of it is 0, 1, an underscore or LF; how many LF there are, none, one or many;
 // whether two underscores stand side by side; and the last character. The Rust counts LF in 32 bits, which wrap; a second one
 // settles what the count is asked for, so counting no further gives the same.
-#[derive(Drop)]
+#[derive(Clone, Copy)]
 struct Body {
     plain: bool,
     lines: u32,

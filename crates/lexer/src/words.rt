@@ -15,7 +15,7 @@ use characters::utf8::decode;
 const PRAGMA_WORD: [u8; 6] = *b"pragma";
 
 // How many characters of the text agree with a word, and the cursor behind them.
-#[derive(Drop)]
+#[derive(Clone, Copy)]
 struct Agreement {
     count: usize,
     cursor: Cursor,

@@ -2,7 +2,7 @@
 -- Assumes nothing.
 use Rattle.std.specs.Prelude.{ℕ, ◌+◌, ◌/◌, ◌≡◌, cond, List, [], eqb, ltb, length, take, drop}
 use Rattle.lists.specs.Over.{over}
-use Rattle.text.specs.Answer.{Answered, done, longest, check_cut, check_room, ◌andThen◌}
+use Rattle.text.specs.Answer.{Answered, done, longest, check_cut, check_room, ◌and_then◌}
 use Rattle.cutters.specs.Records.{Token, total, record_words, misplaced_at, flat_from}
 use Rattle.lexer.specs.Cut.{Letters}
 use Rattle.lexer.specs.Promises.{tokens_by, tokens_of, front}

@@ -1,4 +1,6 @@
 // The list of tokens of a whole text, or of a run of them from a place on, the words of a record for each.
+#![tactic(auto)]
+
 ghost use Rattle.std.specs.Prelude.{◌≡◌, ◌+◌, ◌≤◌, [], ◌∷◌, length};
 ghost use Rattle.std.proofs.lemmas.List.Edits.{sets};
 ghost use Rattle.text.specs.Answer.{longest};
@@ -18,7 +20,7 @@ use ucd::tables;
 const RUN: usize = 64 * RECORD;
 
 // The place behind a run of tokens, and how many they are.
-#[derive(Drop)]
+#[derive(Clone, Copy)]
 pub struct Run {
     pub at: usize,
     pub count: usize,

@@ -1,1 +1,2 @@
+#![tactic(auto)]
 // Definitions and laws on lists, for every crate above: no code.

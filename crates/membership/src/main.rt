@@ -1,9 +1,11 @@
 // Asks each test of a character at every scalar value, one by one, and prints the members of each as merged ranges.
+#![tactic(auto)]
+
 ghost use Rattle.std.specs.Prelude.{◌+◌, ◌≤◌, ◌<◌};
 
 use libc::STDOUT_FILENO;
 
-#[derive(Drop)]
+#[derive(Clone, Copy)]
 struct Tally {
     asked: u64,
     members: u64,

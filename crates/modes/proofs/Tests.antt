@@ -5,7 +5,7 @@ use mathlib.Core.Path.{◌≡◌}
 use mathlib.Core.Bool.{Bool, cond}
 use lib.Dec.{ltb}
 use borrow.Author.Tests.{lt-ltb, le-ltb, lt-leb, le-leb}
-use Rattle.text.specs.Answer.{Answered, done, unknown_selector, ◌andThen◌}
+use Rattle.text.specs.Answer.{Answered, done, unknown_selector, ◌and_then◌}
 use Rattle.modes.specs.Modes.{check_mode, tested_mode}
 use Rattle.modes.specs.Errors.{fatal}
 

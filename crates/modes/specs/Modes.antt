@@ -1,7 +1,7 @@
 -- The modes, 0 to 6, in the order of `Mode`, and the tests on them.
 -- Assumes nothing.
 use Rattle.std.specs.Prelude.{Bool, cond, ◌||◌, ℕ, eqb, ltb}
-use Rattle.text.specs.Answer.{done, unknown_selector, ◌andThen◌}
+use Rattle.text.specs.Answer.{done, unknown_selector, ◌and_then◌}
 
 abbrev pub char_mode : ℕ
 char_mode = 0

@@ -1,6 +1,8 @@
 // The modes of the bodies of literals, in the order of `Mode`; a character as a byte; and the tests on modes and errors.
+#![tactic(auto)]
+
 ghost use Rattle.std.specs.Prelude.{◌≡◌, cond, ◌%◌};
-ghost use Rattle.text.specs.Answer.{Answered, done, ◌andThen◌};
+ghost use Rattle.text.specs.Answer.{Answered, done, ◌and_then◌};
 ghost use Rattle.modes.specs.Modes.{check_mode, is_single, in_double_quotes, characters_should_be_ascii, is_unicode_escape_disallowed, has_prefix, is_raw, tested_mode};
 ghost use Rattle.modes.specs.Errors.{fatal};
 

@@ -4,6 +4,8 @@
 //
 // What keeps it from reading or writing goes to standard error. It has no exit status of its own: the launcher gives 0 for
 // tokens, 1 for a refusal and 2 for all else.
+#![tactic(auto)]
+
 ghost use Rattle.std.specs.Prelude.{◌≤◌, length};
 
 use arguments::{MOST, check_asked, list_asked};
@@ -18,7 +20,7 @@ const BUFFER: usize = MOST + 1;
 const LIST: usize = RECORD * MOST;
 
 // Whether reading went well, and how many bytes there are.
-#[derive(Drop)]
+#[derive(Clone, Copy)]
 struct Input {
     whole: bool,
     len: usize,

@@ -12,6 +12,8 @@
 //     refused NUMBER ALSO NAME
 // What keeps it from comparing or writing goes to standard error. It has no exit status of its own: the launcher gives 0 for same, 1 for
 // different and 2 for all else.
+#![tactic(auto)]
+
 mod kinds;
 
 ghost use Rattle.std.specs.Prelude.{◌≤◌, length};
@@ -24,7 +26,7 @@ use text::Answer;
 const MOST: usize = 1048576;
 
 // Whether all of a file was read, and how many bytes that is.
-#[derive(Drop)]
+#[derive(Clone, Copy)]
 struct Input {
     whole: bool,
     len: usize,

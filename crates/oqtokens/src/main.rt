@@ -4,6 +4,8 @@
 //
 // What keeps it from reading or writing goes to standard error. It has no exit status of its own: the launcher gives 0 for tokens, 1 for a
 // refusal and 2 for all else.
+#![tactic(auto)]
+
 ghost use Rattle.std.specs.Prelude.{◌≤◌, length};
 
 mod lines;
@@ -25,7 +27,7 @@ const LIST: usize = RECORD * (CHUNK + 5);
 type List = [u32; LIST];
 
 // Whether reading went well, and how many bytes there are.
-#[derive(Drop)]
+#[derive(Clone, Copy)]
 struct Input {
     whole: bool,
     len: usize,
@@ -58,7 +60,7 @@ fn tell(written: bool) {
 }
 
 // The lexer behind a chunk and how many tokens it has handed out; whether there is more to come.
-#[derive(Drop)]
+#[derive(Clone, Copy)]
 struct Turn {
     more: bool,
     lexer: Lexer,

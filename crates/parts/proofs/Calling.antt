@@ -17,7 +17,7 @@ use Rattle.characters.specs.Unfinished.{unfinished}
 use Rattle.characters.specs.Text.{byte_length}
 use Rattle.characters.proofs.Text.{bytes_chars, bytes_append}
 use Rattle.characters.proofs.Valid.{valid_within}
-use Rattle.text.specs.Answer.{Answered, done, unknown_selector, too_long, not_utf8, room_too_small, direction_mark, longest, check_room, ◌andThen◌}
+use Rattle.text.specs.Answer.{Answered, done, unknown_selector, too_long, not_utf8, room_too_small, direction_mark, longest, check_room, ◌and_then◌}
 use Rattle.cutters.specs.Records.{record_words}
 use Rattle.lexer.specs.Cut.{Letters}
 use Rattle.lexer.specs.Unicode.{unicode}

@@ -7,7 +7,7 @@ use Rattle.lists.specs.Steps.{PutIf}
 use Rattle.characters.specs.Utf8.{chars, width, valid_up_to}
 use Rattle.characters.specs.Unfinished.{unfinished}
 use Rattle.characters.specs.Text.{byte_length}
-use Rattle.text.specs.Answer.{Answered, done, unknown_selector, too_long, not_utf8, direction_mark, longest, check_room, ◌andThen◌}
+use Rattle.text.specs.Answer.{Answered, done, unknown_selector, too_long, not_utf8, direction_mark, longest, check_room, ◌and_then◌}
 use Rattle.cutters.specs.Records.{record_words}
 use Rattle.lexer.specs.Cut.{Letters}
 use Rattle.locality.specs.Machine.{eats, halts}

@@ -14,7 +14,7 @@ use characters::utf8::{NO_CHAR, clean_up_to, decode, is_direction, is_unfinished
 
 // The answer; of bytes without a fault the first character, if it began before the chunk, the part of the chunk that holds the others, and the bytes behind
 // them.
-#[derive(Drop)]
+#[derive(Clone, Copy)]
 pub struct Scan {
     pub number: u32,
     pub also: u64,

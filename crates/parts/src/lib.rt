@@ -1,4 +1,6 @@
 // A text that comes in parts, cut anywhere: a lexer is fed chunk by chunk, and finished.
+#![tactic(auto)]
+
 ghost use Rattle.std.specs.Prelude.{◌≡◌, true, false, ◌||◌, [], ◌+◌, ◌≤◌, eqb, length};
 ghost use Rattle.text.specs.Answer.{too_long, not_utf8, direction_mark, longest};
 ghost use Rattle.lexer.specs.Unicode.{unicode, lent};
@@ -32,7 +34,7 @@ pub const NOT_OPEN: u32 = 5;
 // Of the last accepted call: where its tokens start and end, where its chunk starts, how long that and the carry were, how many bytes of these tokens
 // belong into the carry, and how many are kept there in all.
 #[repr(C)]
-#[derive(Drop)]
+#[derive(Clone, Copy)]
 pub struct Last {
     from: u32,
     until: u32,
@@ -45,7 +47,7 @@ pub struct Last {
 
 // A lexer between two calls, in integers alone, so that every value has a meaning.
 #[repr(C)]
-#[derive(Drop)]
+#[derive(Clone, Copy)]
 pub struct Lexer {
     profile: u32,
     over: u32,
@@ -58,7 +60,7 @@ pub struct Lexer {
 
 // What a call answers, and the lexer behind it.
 #[repr(C)]
-#[derive(Drop)]
+#[derive(Clone, Copy)]
 pub struct Fed {
     pub answer: Answer,
     pub lexer: Lexer,

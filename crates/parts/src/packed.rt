@@ -13,7 +13,7 @@ use phases::{Phase, depth_of};
 // Nothing has been fed (0), a token has begun (1), or a character behind is not yet decided (any other); the phase as a code; the bytes eaten; where the
 // suffix starts; the tracker, its flags as numbers; that character.
 #[repr(C)]
-#[derive(Drop)]
+#[derive(Clone, Copy)]
 pub struct Machine {
     pub stage: u32,
     pub number: u32,

@@ -9,11 +9,11 @@ ghost use Rattle.parts.specs.Coded.{state_of};
 ghost use Rattle.parts.specs.Steps.{most, handed, one_of, passed, HeadReady, WordsReady, EndReady, PassReady, Gone};
 
 use crate::state::{State, Turn, feed_one, last, release};
-use cutters::RECORD;
 use characters::utf8::decode;
+use cutters::RECORD;
 
 // The state behind a part, where its token starts, and the place behind the words of the records.
-#[derive(Drop)]
+#[derive(Clone, Copy)]
 pub struct Went {
     pub state: State,
     pub begun: u32,

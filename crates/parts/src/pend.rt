@@ -9,7 +9,7 @@ use characters::utf8::{NO_CHAR, decode_four, is_begun};
 
 // At most three bytes, and how many; more than three stand for three.
 #[repr(C)]
-#[derive(Drop)]
+#[derive(Clone, Copy)]
 pub struct Pend {
     pub count: u32,
     pub one: u8,
@@ -19,7 +19,7 @@ pub struct Pend {
 
 // The first character of these bytes and a chunk behind them: whole, with the number of bytes of the chunk that it takes; not yet whole, with the bytes that
 // are now there; or one that nothing can finish.
-#[derive(Drop)]
+#[derive(Clone, Copy)]
 pub enum Head {
     Whole(u32, usize),
     Short(Pend),

@@ -63,7 +63,7 @@ fn number(x: Lexer, chunk: usize, carry: usize, start: usize, len: usize) -> u32
 
 // Where the text is: in the chunk (1) or in the carry (2), from where on, and how many bytes; or why it is not there.
 #[repr(C)]
-#[derive(Drop)]
+#[derive(Clone, Copy)]
 pub struct Place {
     pub number: u32,
     pub which: u32,

@@ -14,7 +14,7 @@ use phases::{Act, Phase, decide, decide_end, first_phase};
 
 // Nothing has been fed; a token has begun, of which so many bytes are eaten, whose suffix starts there, and of whose underscores this has been seen; the
 // same, and a character behind, which is not yet decided.
-#[derive(Drop)]
+#[derive(Clone, Copy)]
 pub enum State {
     Idle,
     Busy(Phase, u32, u32, Tracker),
@@ -22,7 +22,7 @@ pub enum State {
 }
 
 // The state behind a character and where its token starts, and the record that is handed out, if any: its words, but for where it starts.
-#[derive(Drop)]
+#[derive(Clone, Copy)]
 pub struct Turn {
     pub state: State,
     pub begun: u32,

@@ -1,4 +1,6 @@
 // The machine of `locality/specs/Phases` in code: the state behind a first character, and what is done in each state.
+#![tactic(auto)]
+
 ghost use Rattle.std.specs.Prelude.{◌≡◌, [], ◌∷◌};
 ghost use Rattle.lexer.specs.Unicode.{lent};
 ghost use Rattle.locality.specs.Phases.{first};
@@ -28,14 +30,14 @@ use words::{
 };
 
 // The tokens that go to the end of their line.
-#[derive(Drop)]
+#[derive(Clone, Copy)]
 pub enum Line {
     Comment,
     Pragma,
     Annotation,
 }
 
-#[derive(Drop)]
+#[derive(Clone, Copy)]
 pub enum Base {
     Binary,
     Octal,
@@ -45,7 +47,7 @@ pub enum Base {
 
 // What has been seen of a quoted text: only 0, 1 and underscores (whether two of these stood side by side, and whether one is the
 // last); the same and then an LF; anything else.
-#[derive(Drop)]
+#[derive(Clone, Copy)]
 pub enum Seen {
     Bits(bool, bool),
     Broken(bool),
@@ -53,7 +55,7 @@ pub enum Seen {
 }
 
 // The states, each with what it has to remember.
-#[derive(Drop)]
+#[derive(Clone, Copy)]
 pub enum Phase {
     BehindSlash,
     Line(Line),
@@ -81,14 +83,14 @@ pub enum Phase {
 }
 
 // One character is eaten (true: the suffix starts at it), or the token has ended (true: its suffix is empty and starts here).
-#[derive(Drop)]
+#[derive(Clone, Copy)]
 pub enum Act {
     Eats(bool, Phase),
     Halts(bool, u32),
 }
 
 // How a token ends at the end of the text.
-#[derive(Drop)]
+#[derive(Clone, Copy)]
 pub struct Ended {
     pub bare: bool,
     pub kind: u32,

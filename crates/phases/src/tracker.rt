@@ -9,7 +9,7 @@ use lexer::{is_digit_by, kinds};
 
 // The place that was found, or 0; the underscore behind a digit that still waits for one; the last character; whether the digits are
 // hexadecimal; whether the suffix has begun.
-#[derive(Drop)]
+#[derive(Clone, Copy)]
 pub struct Tracker {
     pub found: u32,
     pub wait: u32,

@@ -2,7 +2,7 @@
 -- Assumes nothing.
 use Rattle.std.specs.Prelude.{ℕ, ◌≡◌, cond, List, eqb, length}
 use Rattle.lists.specs.Over.{over}
-use Rattle.text.specs.Answer.{Answered, done, check_cut, check_room, ◌andThen◌}
+use Rattle.text.specs.Answer.{Answered, done, check_cut, check_room, ◌and_then◌}
 use Rattle.renewal.specs.Key.{key_of_text}
 
 -- the number and what is also returned, for room of so many bytes

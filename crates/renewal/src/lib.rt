@@ -1,4 +1,6 @@
 // The renewal key of a text: equal for two texts exactly when their counted tokens are.
+#![tactic(auto)]
+
 ghost use Rattle.renewal.specs.Promises.{Keyed};
 
 mod records;

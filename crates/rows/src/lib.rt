@@ -1,4 +1,6 @@
 // The second entry of the tokenizer: the tokens of a text in a lent row of records, one struct each.
+#![tactic(auto)]
+
 ghost use Rattle.std.specs.Prelude.{◌≡◌, ◌≤◌, ◌<◌, min, length};
 ghost use Rattle.characters.specs.Ranges.{flat};
 ghost use Rattle.ucd.specs.Ucd.{xid_start, xid_continue, emoji};
@@ -14,7 +16,7 @@ use ucd::tables;
 
 // A token as `tokenize` lists it in words.
 #[repr(C)]
-#[derive(Drop)]
+#[derive(Clone, Copy)]
 pub struct Token {
     pub kind: u32,
     pub len: u32,
@@ -133,7 +135,7 @@ pub fn tokenize_rows(text: &[u8], profile: u32, row: &mut [Token]) -> Answer
 // A row by value, for a caller that holds no lent slice of structs.
 pub type Row = [Token; 64];
 
-#[derive(Drop)]
+#[derive(Clone, Copy)]
 pub struct Rows {
     pub answer: Answer,
     pub row: Row,

@@ -1,4 +1,6 @@
 // Whether two texts have the same counted tokens, and where they part.
+#![tactic(auto)]
+
 ghost use Rattle.same.specs.Compare.{refused_by, compared, Compared};
 
 mod places;
@@ -19,7 +21,7 @@ pub const NEW_REFUSED: u32 = 3;
 
 // A counted token: its kind, where it starts and its length in bytes. At the end of a text kind and length are 0.
 #[repr(C)]
-#[derive(Drop)]
+#[derive(Clone, Copy)]
 pub struct Sight {
     pub kind: u32,
     pub start: usize,
@@ -29,7 +31,7 @@ pub struct Sight {
 // The verdict; the answer to the text that was refused; how many counted tokens agree, from the first on; and what stands
 // behind those in each text.
 #[repr(C)]
-#[derive(Drop)]
+#[derive(Clone, Copy)]
 pub struct Comparison {
     pub verdict: u32,
     pub refusal: Answer,
@@ -40,7 +42,7 @@ pub struct Comparison {
 
 // Both from 1: lines end at LF, and a column is a code point where the text is UTF-8.
 #[repr(C)]
-#[derive(Drop)]
+#[derive(Clone, Copy)]
 pub struct Place {
     pub line: usize,
     pub column: usize,

@@ -13,7 +13,7 @@ use text::Answer;
 use ucd::tables;
 
 // A counted token by its places: its start, where its suffix starts, and its end.
-#[derive(Drop)]
+#[derive(Clone, Copy)]
 struct Found {
     kind: u32,
     start: usize,

@@ -1,1 +1,2 @@
 // The sample texts of the scope, proved: no code.
+#![tactic(auto)]

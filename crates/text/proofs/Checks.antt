@@ -13,7 +13,7 @@ use Rattle.characters.specs.Utf8.{valid_up_to}
 use Rattle.characters.specs.Direction.{unmarked, clean_up_to}
 use Rattle.characters.proofs.Valid.{valid_within}
 use Rattle.characters.proofs.Direction.{clean_first, unmarked_all, marked_before}
-use Rattle.text.specs.Answer.{Answered, done, too_long, not_utf8, room_too_small, direction_mark, longest, known_profile, check_text, check_marks, check_cut, ◌andThen◌, unknown_selector, Accepted, CutAccepted}
+use Rattle.text.specs.Answer.{Answered, done, too_long, not_utf8, room_too_small, direction_mark, longest, known_profile, check_text, check_marks, check_cut, ◌and_then◌, unknown_selector, Accepted, CutAccepted}
 
 -- one outcome: two answers of one call are equal
 pub answered_unique : {is : ℕ × ℕ} {n a m b : ℕ} → Answered is n a → Answered is m b → (n ≡ m) × (a ≡ b)

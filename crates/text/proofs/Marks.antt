@@ -15,7 +15,7 @@ use Rattle.lists.proofs.Bools.{by_test}
 use Rattle.characters.specs.Utf8.{table, behind, begins, joined, read_by, first, next, chars, width, encode_all, bytes_before, valid_up_to}
 use Rattle.characters.specs.Direction.{is_direction, unmarked, unmarked_up_to, Found}
 use Rattle.characters.proofs.Direction.{found, found_there, holds_one}
-use Rattle.text.specs.Answer.{done, not_utf8, direction_mark, longest, known_profile, check_text, check_marks, check_cut, ◌andThen◌, CutMarked}
+use Rattle.text.specs.Answer.{done, not_utf8, direction_mark, longest, known_profile, check_text, check_marks, check_cut, ◌and_then◌, CutMarked}
 use Rattle.text.proofs.Checks.{accepted, not_refused}
 
 -- ---- THE REFUSAL: 7 with the byte place of the first mark, and for such texts alone

@@ -11,7 +11,7 @@ use lib.Seq.{sets}
 use borrow.Author.Tests.{ltb-false, lt-ltb, le-ltb, eqb-true, eqb-false, eq-eqb, ne_eqb}
 use Rattle.lists.proofs.Bools.{by_test}
 use Rattle.lists.proofs.Store.{stored_front}
-use Rattle.text.specs.Answer.{Answered, done, room_too_small, check_room, ◌andThen◌}
+use Rattle.text.specs.Answer.{Answered, done, room_too_small, check_room, ◌and_then◌}
 use Rattle.text.specs.Steps.{Stored, Entered}
 
 module _ {room need n : ℕ} {new list list' : List ℕ} {number also : ℕ} (c : n ≡ need) where

@@ -33,8 +33,8 @@ pub record Answered (is : ℕ × ℕ) (number also : ℕ) : Type 0 where
   pub also_is : also ≡ is.1
 
 -- ---- checks go in order: the first that refuses is given, and what follows only where none does
-infixr 20 ◌andThen◌
-abbrev pub ◌andThen◌ : ℕ × ℕ → ℕ × ℕ → ℕ × ℕ
+infixr 20 ◌and_then◌
+abbrev pub ◌and_then◌ : ℕ × ℕ → ℕ × ℕ → ℕ × ℕ
 x and_then y = cond (eqb x.0 done) y x
 
 -- the profile of a caller that names none, and the profiles that are known: 0 and 1

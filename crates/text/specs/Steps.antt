@@ -2,7 +2,7 @@
 -- Assumes nothing.
 use Rattle.std.specs.Prelude.{◌≡◌, cond, List, ℕ, eqb}
 use Rattle.lists.specs.Over.{over}
-use Rattle.text.specs.Answer.{Answered, done, check_room, ◌andThen◌}
+use Rattle.text.specs.Answer.{Answered, done, check_room, ◌and_then◌}
 
 -- `need` records or bytes, whose values are `new`, go into a list that has room for `room` of them: the answer, and the list behind the call
 pub record Stored (room need : ℕ) (new list : List ℕ) (number also : ℕ) (list' : List ℕ) : Type 0 where

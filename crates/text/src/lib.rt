@@ -1,12 +1,14 @@
 // What an entry that can refuse answers, and the checks that it begins with.
+#![tactic(auto)]
+
 ghost use Rattle.std.specs.Prelude.{◌≡◌};
-ghost use Rattle.text.specs.Answer.{Answered, default_profile, check_text, check_marks, check_cut, ◌andThen◌};
+ghost use Rattle.text.specs.Answer.{Answered, default_profile, check_text, check_marks, check_cut, ◌and_then◌};
 
 use characters::utf8::{clean_up_to, valid_up_to};
 
 // The number says how a call went, and `also` what comes with it.
 #[repr(C)]
-#[derive(Drop)]
+#[derive(Clone, Copy)]
 pub struct Answer {
     pub number: u32,
     pub also: u64,

@@ -1,1 +1,2 @@
 // Theorems on the tokens of a text: no code.
+#![tactic(auto)]

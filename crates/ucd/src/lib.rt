@@ -2,6 +2,8 @@
 // A constant that is lent is stored anew where its function starts, so each test has a form that takes the property's table
 // as a slice: a caller that asks about many characters lends it once. ASCII is decided before any table, and so the function that lends
 // the constant is one of its own.
+#![tactic(auto)]
+
 ghost use Rattle.std.specs.Prelude.{◌≡◌};
 ghost use Rattle.characters.specs.Ranges.{in_table, flat};
 ghost use Rattle.ucd.specs.Search.{searched};

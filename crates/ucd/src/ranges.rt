@@ -27,7 +27,7 @@ fn among(table: &[u32], c: u32) -> usize
 }
 
 // So many ranges from `base` on.
-#[derive(Drop)]
+#[derive(Clone, Copy)]
 struct Part {
     base: usize,
     size: usize,

@@ -3,7 +3,7 @@
 use Rattle.std.specs.Prelude.{ℕ, ◌-◌, ◌/◌, min, ◌≡◌, Bool, cond, List, eqb, length, take, drop}
 use Rattle.lists.specs.Over.{over}
 use Rattle.characters.specs.Utf8.{chars}
-use Rattle.text.specs.Answer.{Answered, done, check_text, check_room, ◌andThen◌}
+use Rattle.text.specs.Answer.{Answered, done, check_text, check_room, ◌and_then◌}
 use Rattle.modes.specs.Modes.{check_mode}
 use Rattle.modes.specs.Errors.{number}
 use Rattle.unescape.specs.Bodies.{char_or_byte, items_of, flat}

@@ -7,13 +7,13 @@ ghost use Rattle.unescape.specs.Bodies.{is_escape_only, one_char, char_or_byte, 
 ghost use Rattle.unescape.specs.Steps.{end_of, error_of, escape_at, step_of, Scanned, Behind, on_first, Stepped};
 
 use crate::escapes::{Escape, ascii_check, scan_escape, scan_hex, scan_unicode, simple};
+use characters::utf8::{NO_CHAR, decode};
 use modes::{errors, is_ascii_only, is_raw};
 use ucd::is_white_space;
-use characters::utf8::{NO_CHAR, decode};
 
 // What a turn over a body gives: an item up to `at`, where there is one; warning 21 up to `past`, where it is given; and the
 // place behind, `at`.
-#[derive(Drop)]
+#[derive(Clone, Copy)]
 pub struct Step {
     pub at: usize,
     pub some: bool,
@@ -23,7 +23,7 @@ pub struct Step {
 }
 
 // Where a run of spaces, tabs, LF and CR ends, and whether it holds an LF.
-#[derive(Drop)]
+#[derive(Clone, Copy)]
 struct Spaces {
     at: usize,
     lines: bool,

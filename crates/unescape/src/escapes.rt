@@ -4,11 +4,11 @@ ghost use Rattle.characters.specs.Steps.{Ate};
 ghost use Rattle.unescape.specs.Escapes.{to_digit, hex_digit, hex_escape, first_digit, or_underscore, count_digit, valued, add_digit, code_point, closing, braced, unicode_escape, simple, escape, ascii_check};
 ghost use Rattle.unescape.specs.Steps.{escape_at, value_of, Scanned};
 
-use modes::errors;
 use characters::utf8::decode;
+use modes::errors;
 
 // What a scan found, a character or an error, and the place behind what it read.
-#[derive(Drop)]
+#[derive(Clone, Copy)]
 pub enum Escape {
     Value(u32, usize),
     Error(u32, usize),
@@ -16,7 +16,7 @@ pub enum Escape {
 
 // The digits of `\u{..}`: how many, the value of the first six, and the place behind them. No text has so many that the count
 // wraps.
-#[derive(Drop)]
+#[derive(Clone, Copy)]
 struct Digits {
     count: usize,
     value: u32,

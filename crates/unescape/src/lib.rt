@@ -1,4 +1,6 @@
 // The bodies of literals: what their escapes stand for.
+#![tactic(auto)]
+
 ghost use Rattle.std.specs.Prelude.{◌≡◌, true, false, min};
 ghost use Rattle.text.specs.Answer.{Answered};
 ghost use Rattle.unescape.specs.Promises.{Unescaped, part, single};

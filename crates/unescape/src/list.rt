@@ -7,9 +7,9 @@ ghost use Rattle.unescape.specs.Bodies.{char_or_byte, one, turns, items_of, flat
 ghost use Rattle.unescape.specs.Steps.{item_words, Walked, StoredItems};
 
 use crate::bodies::{item, turn, unescape_char_or_byte};
+use characters::utf8::NO_CHAR;
 use modes::errors;
 use text::Answer;
-use characters::utf8::NO_CHAR;
 
 // One item, where there is one, stored where `write` says so: how many there are then.
 fn put(

@@ -1,0 +1,21 @@
+use Prim.Native.Nat.{◌-◌}
+use Rattle.characters.proofs.Text.{eating}
+use Rattle.characters.proofs.Ascii.{ascii}
+use Rattle.lexer.proofs.Bytewise.{running}
+use borrow.Author.Rules.{rules}
+use Rattle.lexer.proofs.cursor.Cursor.eat_ascii_continue.Goals as goal
+
+pub loop-at-init : goal.loop-at-init
+loop-at-init c = search (rules, eating, ascii, running)
+
+pub returns-then-b-ge128 : goal.returns-then-b-ge128
+returns-then-b-ge128 c = search (rules, eating, ascii, running)
+
+pub returns-then-not-is_xid_continue_in : goal.returns-then-not-is_xid_continue_in
+returns-then-not-is_xid_continue_in c = search (rules, eating, ascii, running)
+
+pub loop-at-preserved : goal.loop-at-preserved
+loop-at-preserved c = search (rules, eating, ascii, running)
+
+pub returns : goal.returns
+returns c = search (rules, eating, ascii, running)

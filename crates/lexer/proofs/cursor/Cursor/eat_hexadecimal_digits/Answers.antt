@@ -1,0 +1,32 @@
+use Prim.Native.Nat.{◌-◌}
+use mathlib.Core.Logic.{inl, inr}
+use Rattle.lexer.proofs.Underscores.{reading}
+use borrow.Author.Rules.{rules}
+use Rattle.lexer.proofs.cursor.Cursor.eat_hexadecimal_digits.Goals as goal
+
+pub loop-at-init : goal.loop-at-init
+loop-at-init c = search (rules, reading)
+
+pub byte-b-requires : goal.byte-b-requires
+byte-b-requires c = search (rules, reading)
+
+pub first_misplaced-misplaced-requires : goal.first_misplaced-misplaced-requires
+first_misplaced-misplaced-requires c = search (rules, reading)
+
+pub is_hex_digit-requires : goal.is_hex_digit-requires
+is_hex_digit-requires c = search (rules, reading)
+
+pub returns-then-not-is_hex_digit : goal.returns-then-not-is_hex_digit
+returns-then-not-is_hex_digit c = search (rules, reading)
+
+pub overflow_add-at : goal.overflow_add-at
+overflow_add-at c = search (rules, reading)
+
+pub loop-at-smaller : goal.loop-at-smaller
+loop-at-smaller c = search (rules, reading)
+
+pub loop-at-preserved : goal.loop-at-preserved
+loop-at-preserved c = elim c.if-b-eq95.branch [ inl x ↦ search (rules, reading) | inr y ↦ search (rules, reading) ]
+
+pub returns : goal.returns
+returns c = search (rules, reading)

@@ -1,0 +1,16 @@
+use borrow.Author.Rules.{rules}
+use Rattle.ucd.specs.Properties.{ascii_emoji}
+use Rattle.ucd.proofs.Member.{member}
+use Rattle.ucd.proofs.ascii_emoji.Goals as goal
+
+pub returns-then-in_range : goal.returns-then-in_range
+unfolding ascii_emoji
+returns-then-in_range c = search (rules, member)
+
+pub returns-then-in_range-2 : goal.returns-then-in_range-2
+unfolding ascii_emoji
+returns-then-in_range-2 c = search (rules, member)
+
+pub returns : goal.returns
+unfolding ascii_emoji
+returns c = search (rules, member)
