@@ -1,3 +1,5 @@
+use mathlib.Core.Path.{refl}
+use Rattle.lexer.proofs.Names.{agreeing_stop, agreeing_more}
 use Prim.Native.Nat.{◌-◌}
 use native.Mathlib.Omega.{arith}
 use Rattle.characters.proofs.Text.{decoded_fits}
@@ -15,13 +17,13 @@ pub overflow_cast-w : goal.overflow_cast-w
 overflow_cast-w c = omega (arith, c.type_inv.word c.loop-count.count)
 
 pub returns-then-d-w : goal.returns-then-d-w
-returns-then-d-w c = search (rules, agreeing)
+returns-then-d-w c = agreeing_stop c.loop-count.invariant c.decode-d.ensures (omega arith) (omega arith) c.if-d-w.true
 
 pub overflow_add-at : goal.overflow_add-at
 overflow_add-at c = omega (arith, decoded_fits)
 
 pub loop-count-preserved : goal.loop-count-preserved
-loop-count-preserved c = search (rules, agreeing)
+loop-count-preserved c = agreeing_more c.loop-count.invariant c.decode-d.ensures (omega arith) (omega arith) c.if-d-w.false refl refl
 
 pub returns : goal.returns
 returns c = search (rules, agreeing)

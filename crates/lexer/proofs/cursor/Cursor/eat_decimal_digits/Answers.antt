@@ -1,3 +1,4 @@
+use Rattle.lexer.proofs.cursor.Cursor.eat_decimal_digits.Goals.{then-b-eq95, else-b-eq95+else-not-is_digit}
 use Prim.Native.Nat.{◌-◌}
 use mathlib.Core.Logic.{inl, inr}
 use Rattle.lexer.proofs.Underscores.{reading}
@@ -26,7 +27,7 @@ pub loop-at-smaller : goal.loop-at-smaller
 loop-at-smaller c = search (rules, reading)
 
 pub loop-at-preserved : goal.loop-at-preserved
-loop-at-preserved c = elim c.if-b-eq95.branch [ inl x ↦ search (rules, reading) | inr y ↦ search (rules, reading) ]
+loop-at-preserved c = elim c.if-b-eq95.branch [ then-b-eq95 w ↦ search (rules, reading) | else-b-eq95+else-not-is_digit w ↦ search (rules, reading) ]
 
 pub returns : goal.returns
 returns c = search (rules, reading)

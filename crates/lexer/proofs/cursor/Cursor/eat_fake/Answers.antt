@@ -1,3 +1,4 @@
+use Rattle.characters.proofs.Text.{halt_skip}
 use Prim.Native.Nat.{◌-◌}
 use native.Mathlib.Omega.{arith}
 use Rattle.characters.proofs.Text.{eating, decoded_fits, decoded_some}
@@ -14,7 +15,7 @@ pub goes_on-requires : goal.goes_on-requires
 goes_on-requires c = search (rules, eating)
 
 pub returns-then-not-goes_on : goal.returns-then-not-goes_on
-returns-then-not-goes_on c = search (rules, eating)
+returns-then-not-goes_on c = halt_skip c.loop-at.invariant c.decode-d.ensures (omega arith) c.goes_on.ensures c.if-not-goes_on.true
 
 pub overflow_add-at : goal.overflow_add-at
 overflow_add-at c = omega (arith, decoded_fits)

@@ -1,3 +1,5 @@
+use Rattle.characters.proofs.Ascii.{ascii_halt}
+use Rattle.characters.proofs.Text.{halt_skip}
 use Prim.Native.Nat.{◌-◌}
 use native.Mathlib.Omega.{arith}
 use Rattle.characters.proofs.Text.{eating, decoded_fits, decoded_some}
@@ -9,13 +11,13 @@ pub loop-at-init : goal.loop-at-init
 loop-at-init c = search (rules, eating, ascii)
 
 pub returns-then-not-is_whitespace : goal.returns-then-not-is_whitespace
-returns-then-not-is_whitespace c = search (rules, eating, ascii)
+returns-then-not-is_whitespace c = ascii_halt c.loop-at.invariant c.byte-b.ensures (omega arith) (omega arith) c.is_whitespace.ensures c.if-not-is_whitespace.true
 
 pub loop-at-preserved-then-b-lt128 : goal.loop-at-preserved-then-b-lt128
 loop-at-preserved-then-b-lt128 c = search (rules, eating, ascii)
 
 pub returns-then-not-is_whitespace-2 : goal.returns-then-not-is_whitespace-2
-returns-then-not-is_whitespace-2 c = search (rules, eating, ascii)
+returns-then-not-is_whitespace-2 c = halt_skip c.loop-at.invariant c.decode-d.ensures (omega arith) c.is_whitespace-else-b-lt128.ensures c.if-not-is_whitespace-2.true
 
 pub overflow_add-at-else-b-lt128 : goal.overflow_add-at-else-b-lt128
 overflow_add-at-else-b-lt128 c = omega (arith, decoded_fits)
