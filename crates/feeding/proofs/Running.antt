@@ -201,7 +201,7 @@ reached x (c ∷ cs) = reached (next_lexer x c.last c.chunk c.carry c.room) cs
 pub running_reached : (x : Lexer) (cs : List Call) → running x ≡ true → running (reached x cs) ≡ true
 unfolding reached
 running_reached x [] h = h
-running_reached x (c ∷ cs) h = running_reached _ cs (running_kept x c.last c.chunk c.carry c.room h)
+running_reached x (c ∷ cs) h = running_reached (next_lexer x c.last c.chunk c.carry c.room) cs (running_kept x c.last c.chunk c.carry c.room h)
 
 -- 5 EXACTLY WHERE IT IS OVER
 pub five_running : (x : Lexer) → running x ≡ true → (last : Bool) (chunk : List ℕ) (room : ℕ) → ((answer x last chunk room).0 ≡ not_open) ↔ (x.over ≡ true)

@@ -1,0 +1,20 @@
+use Prim.Native.Nat.{◌-◌}
+use native.Mathlib.Omega.{arith}
+use Rattle.same.proofs.Ahead.{seeking, token_some}
+use borrow.Author.Rules.{rules}
+use Rattle.same.proofs.walk.next_counted.Goals as goal
+
+pub loop-at-init : goal.loop-at-init
+loop-at-init c = search (rules, seeking)
+
+pub returns-then-is_counted : goal.returns-then-is_counted
+returns-then-is_counted c = search (rules, seeking)
+
+pub loop-at-smaller : goal.loop-at-smaller
+loop-at-smaller c = omega (arith, token_some c.requires.1 c.loop-at-test.true c.token_at-t.ensures)
+
+pub loop-at-preserved : goal.loop-at-preserved
+loop-at-preserved c = search (rules, seeking)
+
+pub returns : goal.returns
+returns c = search (rules, seeking)
