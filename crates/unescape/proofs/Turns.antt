@@ -156,11 +156,11 @@ skip_step {s} {at} {end} {c} {wide} {past} {lines} a d o u start l =
 module _ (size mode : ℕ) {b ascii_only : Bool} (o : b ≡ is_raw mode) (a : ascii_only ≡ characters_should_be_ascii mode) (l : List ℕ) where
   is_raw_lem : b ≡ true → on_first (turn mode size) l ≡ on_first (raw_str size ascii_only) l
   unfolding turn
-  is_raw_lem t = elim l [ [] ↦ refl | c ∷ m ↦ rw (sym o ∙ t, a) ]
+  is_raw_lem t = elim l as (λ k. on_first (turn mode size) k ≡ on_first (raw_str size ascii_only) k) [ [] ↦ refl | c ∷ m ↦ rw (sym o ∙ t, a) ]
 
   is_str : b ≡ false → on_first (turn mode size) l ≡ on_first (str_common size ascii_only) l
   unfolding turn
-  is_str t = elim l [ [] ↦ refl | c ∷ m ↦ rw (sym o ∙ t, a) ]
+  is_str t = elim l as (λ k. on_first (turn mode size) k ≡ on_first (str_common size ascii_only) k) [ [] ↦ refl | c ∷ m ↦ rw (sym o ∙ t, a) ]
 
   pub turn_raw : {s : List ℕ} {at : ℕ} {r : Step} → b ≡ true → Stepped (on_first (raw_str size ascii_only) l) s at r → Stepped (on_first (turn mode size) l) s at r
   turn_raw t q = rw (is_raw_lem t) q

@@ -28,7 +28,7 @@ use Rattle.text.proofs.Room as room
 use Rattle.unescape.specs.declared.escapes.Escape.{Escape}
 use Rattle.unescape.specs.declared.bodies.Step.{Step}
 use Rattle.modes.specs.Modes.{is_raw, is_single, characters_should_be_ascii, byte_mode}
-use Rattle.modes.specs.Errors.{Outcome, error, number}
+use Rattle.modes.specs.Errors.{Outcome, error}
 use Rattle.unescape.specs.Escapes.{escape}
 use Rattle.unescape.specs.Bodies.{Item, given, char_or_byte, str_char, raw_char, is_skipped, saw_lf, item, one, unskipped, skipped, slashed, str_common, raw_str, turn, turns, items, items_of, flat}
 use Rattle.unescape.specs.Steps.{end_of, step_of, Scanned, on_first, Stepped, item_words, Walked, StoredItems}

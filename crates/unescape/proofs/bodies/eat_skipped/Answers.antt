@@ -1,5 +1,4 @@
 use Rattle.characters.proofs.Text.{eating, decoded_fits, decoded_some}
-use Prim.Native.Nat.{◌-◌}
 use native.Mathlib.Omega.{arith}
 use borrow.Author.Rules.{rules}
 use Rattle.unescape.proofs.bodies.eat_skipped.Goals as goal

@@ -12,18 +12,15 @@ one_char-first-requires c = omega (arith, decoded_fits)
 
 pub returns-in_default : goal.returns-in_default
 returns-in_default c =
-    let h = c in
-    char_error _ h.decode-d.ensures h.if-text-eq0.false h.one_char-first.ensures c.enum_told-1.given.1
+    char_error _ c.decode-d.ensures c.if-text-eq0.false c.one_char-first.ensures c.in_default.is
 
 pub overflow_add-result : goal.overflow_add-result
 overflow_add-result c = omega (arith, decoded_fits)
 
 pub returns-then-end-text : goal.returns-then-end-text
 returns-then-end-text c =
-    let h = c in
-    char_more _ h.decode-d.ensures h.if-text-eq0.false h.one_char-first.ensures c.first-1.given.1 c.if-end-text.true c.decode-second.ensures (search rules)
+    char_more _ c.decode-d.ensures c.if-text-eq0.false c.one_char-first.ensures c.in-Value.is c.if-end-text.true c.decode-second.ensures (search rules)
 
 pub returns : goal.returns
 returns c =
-    let h = c in
-    char_alone _ h.decode-d.ensures h.if-text-eq0.false h.one_char-first.ensures c.first-1.given.1 c.if-end-text.false
+    char_alone _ c.decode-d.ensures c.if-text-eq0.false c.one_char-first.ensures c.in-Value.is c.if-end-text.false

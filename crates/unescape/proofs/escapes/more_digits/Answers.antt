@@ -1,5 +1,4 @@
 use Rattle.unescape.proofs.Digits.{small_first, small_cap, small_on, count_few, digit_by_digit}
-use Prim.Native.Nat.{◌-◌}
 use native.Mathlib.Omega.{arith}
 use borrow.Author.Rules.{rules}
 use Rattle.unescape.proofs.escapes.more_digits.Goals as goal

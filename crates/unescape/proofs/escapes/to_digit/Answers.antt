@@ -1,8 +1,8 @@
 use Rattle.characters.proofs.Rows.{in_range_lem}
 use Rattle.unescape.proofs.Digits.{digit_decimal, digit_upper, digit_lower, digit_none}
-use mathlib.Core.Logic.{inl, inr}
 use mathlib.Core.Path.{refl, ◌∙◌}
 use Rattle.unescape.proofs.escapes.to_digit.Goals as goal
+use Rattle.unescape.proofs.escapes.to_digit.Goals.{then-c, else-c, then-c-2, else-c-2}
 
 pub overflow_sub-value : goal.overflow_sub-value
 overflow_sub-value c = (in_range_lem _ _ _ c.if-c.true).over
@@ -19,10 +19,10 @@ returns-then-c-3 c = digit_lower _ c.if-c-3.true refl
 pub returns-else-c-3 : goal.returns-else-c-3
 returns-else-c-3 c =
     elim c.if-c-2.branch [
-      | inl x ↦ digit_upper _ x.0.true x.1
-      | inr y ↦
+      | then-c-2 w ↦ digit_upper _ w.if-c-2.true w.value-is
+      | else-c-2 w ↦
           elim c.if-c.branch [
-            | inl x ↦ digit_decimal _ x.0.true (y.1 ∙ x.1)
-            | inr z ↦ digit_none _ z.0.false y.0.false c.if-c-3.false (y.1 ∙ z.1)
+            | then-c v ↦ digit_decimal _ v.if-c.true (w.value-is ∙ v.value-is)
+            | else-c v ↦ digit_none _ v.if-c.false w.if-c-2.false c.if-c-3.false (w.value-is ∙ v.value-is)
           ]
     ]

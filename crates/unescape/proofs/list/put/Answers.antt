@@ -1,4 +1,3 @@
-use borrow.Author.Tests.{not-false}
 use lib.ListN.{length-set}
 use Rattle.unescape.proofs.Whole.{putting}
 use native.Mathlib.Omega.{arith}
@@ -12,13 +11,13 @@ pub returns-then-not-write : goal.returns-then-not-write
 returns-then-not-write c = search (rules, putting)
 
 pub bounds-list-k : goal.bounds-list-k
-bounds-list-k c = omega (arith, c.requires.3 (not-false _ c.if-not-write.false-raw) (not-false _ c.if-not-some.false-raw))
+bounds-list-k c = omega (arith, c.requires.3 c.if-not-write.false c.if-not-some.false)
 
 pub bounds-list-k-2 : goal.bounds-list-k-2
-bounds-list-k-2 c = simp length-set (omega (arith, c.requires.3 (not-false _ c.if-not-write.false-raw) (not-false _ c.if-not-some.false-raw)))
+bounds-list-k-2 c = simp length-set (omega (arith, c.requires.3 c.if-not-write.false c.if-not-some.false))
 
 pub bounds-list-k-3 : goal.bounds-list-k-3
-bounds-list-k-3 c = simp length-set (omega (arith, c.requires.3 (not-false _ c.if-not-write.false-raw) (not-false _ c.if-not-some.false-raw)))
+bounds-list-k-3 c = simp length-set (omega (arith, c.requires.3 c.if-not-write.false c.if-not-some.false))
 
 pub returns : goal.returns
 returns c = search (rules, putting)

@@ -1,5 +1,4 @@
 use Rattle.unescape.proofs.Whole.{walking, walk_first, walk_few, half_few, walk_room, half_room}
-use Prim.Native.Nat.{◌-◌}
 use native.Mathlib.Omega.{arith}
 use borrow.Author.Rules.{rules}
 use Rattle.unescape.proofs.list.walk_turns.Goals as goal
