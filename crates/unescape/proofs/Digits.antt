@@ -111,7 +111,7 @@ added n v c e f = rw (e, f)
 
 -- where they end
 module _ {s : List ℕ} {at₀ at : ℕ} {x₀ x : ℕ × ℕ} (e : Going or_underscore add_digit s at₀ x₀ at x) where
-  pub digits_halt : {c : ℕ} {f : Bool} → c ≡ get_or s at 0 → at < length s → f ≡ or_underscore c → not f ≡ true → Ate or_underscore add_digit s at₀ x₀ at x
+  pub digits_halt : {c : ℕ} {f : Bool} → c ≡ get_or s at 0 → at < length s → f ≡ or_underscore c → f ≡ false → Ate or_underscore add_digit s at₀ x₀ at x
   digits_halt = going_halt digit_wide e
 
   pub digits_end : length s ≤ at → Ate or_underscore add_digit s at₀ x₀ at x
