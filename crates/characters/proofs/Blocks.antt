@@ -8,7 +8,7 @@ use native.Mathlib.Decide.{dec_le, ℕ_discrete}
 use native.Mathlib.Omega.{arith}
 use lib.Dec.{ltb}
 use lib.ListN.{length, get_or}
-use borrow.Author.Tests.{lt-ltb, le-ltb, ltb-true, not-true, not-false}
+use borrow.Author.Tests.{lt-ltb, le-ltb, ltb-true, not-true}
 use Rattle.lists.proofs.Bools.{and_false, both}
 use Rattle.characters.specs.Ranges.{◌to◌, in_range}
 use Rattle.characters.specs.Steps.{low, high, free, may_stand, Stood, whole, spells, Clear, stops, Passed}

@@ -1,13 +1,12 @@
 -- The decoder's own functions, as `search` takes the laws from what a need knows: each test's answer is a flag of the code.
 -- Assumes nothing.
 use mathlib.Core.Path.{◌≡◌, refl, sym, ap, ◌∙◌}
-use mathlib.Core.Bool.{Bool, true, false, not}
+use mathlib.Core.Bool.{Bool, true, false}
 use mathlib.Core.List.{List, [], ◌∷◌}
 use Prim.Native.Nat.{ℕ, suc, ◌+◌, ◌*◌, ◌%◌, ◌≤◌, ◌<◌}
 use native.Mathlib.Omega.{arith}
 use lib.ListN.{length, drop, get_or, drop_of_length-le}
 use lib.Seq.{drop-cons, get_or-drop}
-use borrow.Author.Tests.{not-true, not-false}
 use Rattle.characters.specs.Ranges.{◌to◌, in_range}
 use Rattle.characters.specs.Utf8.{first, no_char}
 use Rattle.characters.specs.Steps.{Reads, low, high, two, three, four}

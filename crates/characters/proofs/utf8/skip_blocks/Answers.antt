@@ -1,6 +1,5 @@
 use mathlib.Core.Path.{refl}
 use native.Mathlib.Omega.{arith}
-use Prim.Native.Nat.{◌-◌}
 use Rattle.characters.proofs.Walks.{plain_none, plain_block}
 use borrow.Author.Rules.{rules}
 use Rattle.characters.proofs.utf8.skip_blocks.Goals as goal

@@ -1,5 +1,3 @@
-use Prim.Native.Nat.{◌-◌}
-use Rattle.characters.specs.Steps.{stops, Passed}
 use Rattle.characters.proofs.Walks.{passed_none, passed_then, walked, walked_all}
 use borrow.Author.Rules.{rules}
 use Rattle.characters.proofs.utf8.walk.Goals as goal
