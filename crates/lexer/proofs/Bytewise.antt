@@ -5,11 +5,11 @@ use native.Mathlib.Decide.{dec_lt}
 use native.Mathlib.Numerals.{add-one, add-two}
 use native.Mathlib.Omega.{arith}
 use mathlib.Core.Path.{◌≡◌, refl, ap, sym, ◌∙◌}
-use mathlib.Core.Bool.{Bool, true, false, not, ◌&&◌, ◌||◌}
+use mathlib.Core.Bool.{Bool, true, false, ◌&&◌, ◌||◌}
 use mathlib.Core.List.{List, [], ◌∷◌, tail}
 use lib.ListN.{length, drop, get_or, get_or-eq_default}
 use lib.Dec.{eqb}
-use borrow.Author.Tests.{eq-eqb, ne_eqb, not-true}
+use borrow.Author.Tests.{eq-eqb, ne_eqb}
 use Rattle.characters.specs.Utf8.{first, chars}
 use Rattle.characters.specs.Steps.{Place, Eating}
 use Rattle.characters.specs.Text.{left, keep, skip}

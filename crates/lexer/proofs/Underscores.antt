@@ -9,7 +9,7 @@ use mathlib.Core.Bool.{Bool, true, false, not, cond, ◌&&◌, ◌||◌, false�
 use mathlib.Core.List.{List, ◌∷◌, tail}
 use lib.ListN.{length, drop, get_or, length-drop, get_or-eq_default}
 use lib.Dec.{eqb}
-use borrow.Author.Tests.{eq-eqb, ne_eqb, eqb-true, lt-leb, not-true, not-false}
+use borrow.Author.Tests.{eq-eqb, ne_eqb, eqb-true, lt-leb}
 use Rattle.lists.proofs.Bools.{by_test, and_false, or_false, or_true}
 use Rattle.characters.specs.Steps.{Place}
 use Rattle.characters.specs.Text.{byte_length, left}

@@ -14,7 +14,7 @@ use Rattle.locality.specs.Phases.{act, first, Usual}
 use Rattle.locality.proofs.Phases.{next_run, two, ends}
 use Rattle.locality.proofs.Swap.{Swap, Always, swap_front, run_swap}
 use Rattle.locality.proofs.Newline.{NoUnit, lf_blank, lf_stops, blank_swap, Ended, end_swap}
-use Rattle.locality.proofs.Cuts.{Item, counted, texts, Cuts, none, more, begins, whole, Over, one_more}
+use Rattle.locality.proofs.Cuts.{Item, counted, texts, Cuts, none, more, begins, Over, one_more}
 use Rattle.locality.proofs.White.{white_none, lf_white, white_join, white_more, all_white, white_uncounted, next_white, spaces, kind_white}
 
 module _ (u : Letters) (usual : Usual u) (profile : ℕ) where

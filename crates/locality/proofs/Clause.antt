@@ -27,7 +27,6 @@ use Rattle.tokens.proofs.Tiling.{tiles}
 use Rattle.locality.specs.Phases.{Usual}
 use Rattle.tokens.specs.Members.{is_counted, members3}
 use Rattle.locality.specs.Newline.{none_count, Run, MadeOf, with_newline}
-use Rattle.locality.proofs.Phases.{ends}
 use Rattle.locality.proofs.Newline.{NoUnit}
 use Rattle.locality.proofs.Counted.{others_count}
 use Rattle.locality.proofs.Cuts.{Item, counted, texts, toks, counted_join, Cuts, none, more, cuts_text, cuts_join, split, whole, total_bytes, Over}

@@ -5,7 +5,6 @@ use native.Mathlib.Omega.{arith}
 use mathlib.Core.Path.{◌≡◌, refl, ap, ap₂, sym, subst, ◌∙◌}
 use mathlib.Core.Bool.{Bool, true, false, cond}
 use mathlib.Core.List.{List, [], ◌∷◌, ◌++◌, append_assoc, append-nil, cons≢nil}
-use Rattle.lists.proofs.Bools.{both}
 use Rattle.characters.specs.Text.{byte_length}
 use Rattle.characters.proofs.Text.{bytes_append}
 use Rattle.cutters.specs.Records.{Token, total}

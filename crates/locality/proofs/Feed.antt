@@ -1,6 +1,6 @@
 -- Fed part by part, a machine with two characters of lookahead hands out the tokens of the whole text; so does the machine of the lexer.
 -- Assumes nothing.
-use Prim.Native.Nat.{ℕ, ◌+◌}
+use Prim.Native.Nat.{ℕ}
 use mathlib.Core.Path.{◌≡◌, refl, sym, ◌∙◌}
 use mathlib.Core.List.{List, [], ◌∷◌, ◌++◌, append_assoc, append-nil}
 use Rattle.lists.proofs.Cut.{cut_cons}

@@ -1,7 +1,7 @@
 -- The encoding is a prefix code: what begins with a member's bytes begins with no other's. So keys are equal exactly when the lists are, for
 -- all members that obey the record rules.
 -- Assumes nothing.
-use Prim.Native.Nat.{ℕ, ◌+◌}
+use Prim.Native.Nat.{ℕ}
 use native.Mathlib.Decide.{ℕ_discrete}
 use native.Mathlib.Omega.{arith}
 use mathlib.Core.Path.{◌≡◌, refl, ap, sym, ◌∙◌}

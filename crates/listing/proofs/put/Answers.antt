@@ -1,8 +1,6 @@
 use native.Mathlib.Numerals.{add-one, add-two, add-three, add-four}
 use native.Mathlib.Omega.{arith}
 use lib.ListN.{length-set}
-use Rattle.listing.proofs.put.Reads as reads
-use Rattle.listing.proofs.put.Lts as lts
 use Rattle.listing.proofs.put.Goals as goal
 
 pub bounds-list-k-2 : goal.bounds-list-k-2

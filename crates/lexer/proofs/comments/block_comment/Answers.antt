@@ -1,4 +1,3 @@
-use Prim.Native.Nat.{◌-◌}
 use Rattle.lexer.proofs.Blocks.{blocking}
 use borrow.Author.Rules.{rules}
 use Rattle.lexer.proofs.comments.block_comment.Goals as goal

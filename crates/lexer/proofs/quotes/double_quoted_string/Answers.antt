@@ -1,4 +1,3 @@
-use Prim.Native.Nat.{◌-◌}
 use Rattle.lexer.proofs.Bodies.{quoting}
 use borrow.Author.Rules.{rules}
 use Rattle.lexer.proofs.quotes.double_quoted_string.Goals as goal

@@ -1,6 +1,5 @@
 use mathlib.Core.Path.{refl}
 use Rattle.lexer.proofs.Names.{agreeing_stop, agreeing_more}
-use Prim.Native.Nat.{◌-◌}
 use native.Mathlib.Omega.{arith}
 use Rattle.characters.proofs.Text.{decoded_fits}
 use Rattle.lexer.proofs.Names.{agreeing}

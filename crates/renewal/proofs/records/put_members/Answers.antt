@@ -1,5 +1,4 @@
 use mathlib.Core.Path.{refl}
-use Prim.Native.Nat.{◌-◌}
 use native.Mathlib.Omega.{arith}
 use Rattle.renewal.proofs.Entering.{entering_none, enter_within, enter_ready, enter_on, enter_end}
 use borrow.Author.Rules.{rules}

@@ -1,4 +1,3 @@
-use Prim.Native.Nat.{◌-◌}
 use Rattle.renewal.proofs.Writing.{texting_none, texting_more, texting_end, texting_byte, texting_some, texting_most, texting_part}
 use borrow.Author.Rules.{rules}
 use Rattle.renewal.proofs.records.put_texts.Goals as goal

@@ -1,4 +1,3 @@
-use Prim.Native.Nat.{◌-◌}
 use native.Mathlib.Omega.{arith}
 use Rattle.renewal.proofs.Walking.{walking_none}
 use Rattle.renewal.proofs.Keyable.{run_ready, run_on, run_less, run_done}

@@ -1,4 +1,3 @@
-use Prim.Native.Nat.{◌-◌}
 use Rattle.same.proofs.Lines.{counting}
 use borrow.Author.Rules.{rules}
 use Rattle.same.proofs.places.place_of.Goals as goal

@@ -1,4 +1,3 @@
-use Prim.Native.Nat.{◌-◌}
 use native.Mathlib.Omega.{arith}
 use Rattle.same.proofs.Ahead.{seeking, seeking_found, seeking_on, token_some}
 use borrow.Author.Rules.{rules}

@@ -1,4 +1,3 @@
-use Prim.Native.Nat.{◌-◌}
 use Rattle.same.proofs.Parting.{parting}
 use borrow.Author.Rules.{rules}
 use Rattle.same.proofs.walk.part.Goals as goal

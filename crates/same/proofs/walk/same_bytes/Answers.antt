@@ -1,4 +1,3 @@
-use Prim.Native.Nat.{◌-◌}
 use Rattle.same.proofs.Alike.{bytewise}
 use borrow.Author.Rules.{rules}
 use Rattle.same.proofs.walk.same_bytes.Goals as goal

@@ -1,6 +1,5 @@
 use native.Mathlib.Omega.{arith}
 use Rattle.lexer.proofs.Bytewise.{ran_wide, ran_halt}
-use Prim.Native.Nat.{◌-◌}
 use Rattle.characters.proofs.Text.{eating}
 use Rattle.characters.proofs.Ascii.{ascii}
 use Rattle.lexer.proofs.Bytewise.{running}

@@ -1,5 +1,4 @@
 use Rattle.characters.proofs.Text.{halt_skip}
-use Prim.Native.Nat.{◌-◌}
 use native.Mathlib.Omega.{arith}
 use Rattle.characters.proofs.Text.{eating, decoded_fits, decoded_some}
 use borrow.Author.Rules.{rules}

@@ -1,6 +1,4 @@
 use Rattle.lexer.proofs.cursor.Cursor.eat_hexadecimal_digits.Goals.{then-b-eq95, else-b-eq95+else-not-is_hex_digit}
-use Prim.Native.Nat.{◌-◌}
-use mathlib.Core.Logic.{inl, inr}
 use Rattle.lexer.proofs.Underscores.{reading}
 use borrow.Author.Rules.{rules}
 use Rattle.lexer.proofs.cursor.Cursor.eat_hexadecimal_digits.Goals as goal

@@ -1,6 +1,5 @@
 use Rattle.characters.proofs.Ascii.{ascii_halt}
 use Rattle.characters.proofs.Text.{halt_skip}
-use Prim.Native.Nat.{◌-◌}
 use native.Mathlib.Omega.{arith}
 use Rattle.characters.proofs.Text.{eating, decoded_fits, decoded_some}
 use Rattle.characters.proofs.Ascii.{ascii}

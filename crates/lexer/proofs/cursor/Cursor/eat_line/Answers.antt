@@ -1,4 +1,3 @@
-use Prim.Native.Nat.{◌-◌}
 use Rattle.lexer.proofs.Bytewise.{bytewise}
 use borrow.Author.Rules.{rules}
 use Rattle.lexer.proofs.cursor.Cursor.eat_line.Goals as goal
