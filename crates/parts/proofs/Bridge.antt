@@ -1,17 +1,16 @@
 -- THE VALUES AND WHAT THEY MEAN: the value that a call hands back means the lexer that the definitions have behind that call, so that what is proved of lexers
 -- and their histories is proved of the values that a caller holds.
 -- Assumes nothing.
-use Prim.Native.Nat.{ℕ, suc, ◌≤◌}
-use mathlib.Core.Path.{◌≡◌, refl, ap, sym, ◌∙◌}
-use mathlib.Core.Bool.{Bool, true, false, not, cond, ◌||◌}
+use Prim.Native.Nat.{ℕ, ◌≤◌}
+use mathlib.Core.Path.{◌≡◌, refl}
+use mathlib.Core.Bool.{Bool, true, false, ◌||◌}
 use mathlib.Core.List.{List, [], ◌∷◌}
 use native.Mathlib.Omega.{arith}
 use lib.Dec.{eqb}
-use lib.ListN.{length, take, get_or}
+use lib.ListN.{length}
 use Rattle.lists.proofs.Bools.{by_test}
 use borrow.Author.Tests.{eqb-true}
 use Rattle.text.specs.Answer.{done, too_long, not_utf8, direction_mark}
-use Rattle.feeding.specs.Tracker as T
 use Rattle.feeding.specs.Fed as F
 use Rattle.feeding.specs.Lexer as L
 use Rattle.feeding.specs.Call.{answer, accepted, next_lexer}
@@ -19,7 +18,7 @@ use Rattle.feeding.proofs.Refusals.{passed, accepts}
 use Rattle.feeding.proofs.Running.{Fit, from_running, runs_short, running_started, running_kept}
 use Rattle.phases.specs.Codec.{flag, flag_number}
 use Rattle.phases.proofs.Coding.{code_back}
-use Rattle.parts.specs.Coded.{meaning, packed, machine_of, packed_machine, pend_of, packed_pend, ended_lexer}
+use Rattle.parts.specs.Coded.{meaning, packed, machine_of, packed_machine, pend_of, packed_pend}
 use Rattle.parts.specs.Promises.{next_of, start_of}
 use Rattle.parts.specs.declared.Lexer as D
 

@@ -3,37 +3,35 @@
 use Prim.Native.Nat.{ℕ, ◌+◌, ◌-◌, ◌*◌, ◌/◌, ◌≤◌, ◌<◌}
 use mathlib.Core.Path.{◌≡◌, refl, ap, sym, ◌∙◌}
 use mathlib.Core.Bool.{Bool, true, false, not, cond, ◌||◌}
-use mathlib.Core.List.{List, [], ◌∷◌, ◌++◌, append-nil}
+use mathlib.Core.List.{List, [], ◌∷◌, ◌++◌}
 use native.Mathlib.Omega.{arith}
 use lib.Dec.{eqb, ltb}
 use lib.ListN.{length, take, drop, length-append, length-take, length-drop}
 use borrow.Author.Tests.{eqb-true, eq-eqb, ne_eqb, lt-ltb, le-ltb, ltb-false, not-false}
 use Rattle.lists.specs.Over.{over}
-use Rattle.lists.specs.Steps.{PutIf}
 use Rattle.lists.proofs.Bools.{by_test}
 use Rattle.lists.proofs.Store.{stored_front}
 use Rattle.characters.specs.Utf8.{chars, valid_up_to}
-use Rattle.characters.specs.Unfinished.{unfinished}
 use Rattle.characters.specs.Text.{byte_length}
 use Rattle.characters.proofs.Text.{bytes_chars, bytes_append}
 use Rattle.characters.proofs.Valid.{valid_within}
-use Rattle.text.specs.Answer.{Answered, done, unknown_selector, too_long, not_utf8, room_too_small, direction_mark, longest, check_room, ◌and_then◌}
+use Rattle.text.specs.Answer.{done, unknown_selector, too_long, not_utf8, room_too_small, direction_mark, longest, check_room, ◌and_then◌}
 use Rattle.cutters.specs.Records.{record_words}
 use Rattle.lexer.specs.Cut.{Letters}
 use Rattle.lexer.specs.Unicode.{unicode}
-use Rattle.feeding.specs.Fed.{Rec, words, State, idle, feeds, finish}
+use Rattle.feeding.specs.Fed.{Rec, words, State, idle, finish}
 use Rattle.feeding.specs.Begun.{whole, beyond, fault_of}
 use Rattle.feeding.specs.Lexer.{Lexer, started, taken, running}
-use Rattle.feeding.specs.Call.{not_open, known_in_parts, bytes, fed_to, given, fed_all, next_begun, answer, early, places, sequence, there, up_to, keeps, accepted, next_carry, next_list}
+use Rattle.feeding.specs.Call.{not_open, known_in_parts, fed_to, given, fed_all, next_begun, answer, early, places, sequence, there, up_to, keeps, accepted, next_carry, next_list}
 use Rattle.feeding.proofs.Begun.{whole_long}
-use Rattle.feeding.proofs.Refusals.{then_done, cond_done, cond_not, neither, no_fault}
+use Rattle.feeding.proofs.Refusals.{then_done, cond_not, neither, no_fault}
 use Rattle.feeding.proofs.Running.{Runs, from_running, to_fits, runs_short, all_fed}
 use Rattle.feeding.proofs.Tiles.{Early, few_fed, few_last, next_within, given_early}
 use Rattle.feeding.proofs.Carry.{places_long, up_more, up_stop, kept_long}
 use Rattle.phases.specs.Codec.{flag_number}
 use Rattle.parts.specs.Coded.{state_of, packed_pend, meaning, packed, ended_lexer, no_machine, packed_machine}
 use Rattle.parts.specs.Promises.{next_of, Called}
-use Rattle.parts.specs.Steps.{one_of, passed, PassReady, Gone, Good, behind_as, check_of, Checked, CallReady, AcceptReady, Accepted, Refused, Shortage, Delivered, kept_bytes, Kept, end_in}
+use Rattle.parts.specs.Steps.{one_of, passed, PassReady, Gone, behind_as, check_of, Checked, CallReady, AcceptReady, Accepted, Refused, Shortage, Delivered, kept_bytes, Kept, end_in}
 use Rattle.parts.specs.declared.check.Scan.{Scan}
 use Rattle.parts.specs.declared.passes.Went.{Went}
 use Rattle.parts.specs.declared.Lexer as D

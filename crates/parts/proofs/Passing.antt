@@ -3,7 +3,7 @@
 use Prim.Native.Nat.{ℕ, suc, ◌+◌, ◌-◌, ◌*◌, ◌≤◌, ◌<◌}
 use mathlib.Core.Path.{◌≡◌, refl, ap, sym, ◌∙◌}
 use mathlib.Core.Bool.{Bool, true, false, not, cond}
-use mathlib.Core.List.{List, [], ◌∷◌, ◌++◌, append_assoc, append-nil}
+use mathlib.Core.List.{List, [], ◌∷◌, ◌++◌, append-nil}
 use native.Mathlib.Omega.{arith}
 use native.Mathlib.Nat.{add-zero}
 use lib.ListN.{length, set, length-append}
@@ -14,9 +14,8 @@ use Rattle.lists.proofs.Bools.{by_test}
 use Rattle.lists.proofs.Store.{StoringFrom, storing_from, storing_on, storing_put}
 use Rattle.characters.specs.Ranges.{in_table}
 use Rattle.characters.specs.Utf8.{chars, width}
-use Rattle.characters.specs.Steps.{Point}
 use Rattle.characters.specs.Text.{Decoded, left, byte_length}
-use Rattle.characters.proofs.Text.{left_end, decoded_point, bytes_chars, bytes_append}
+use Rattle.characters.proofs.Text.{left_end, decoded_point, bytes_chars}
 use Rattle.characters.proofs.Valid.{width_some}
 use Rattle.ucd.specs.Properties.{ascii_start, tested_in}
 use Rattle.text.specs.Answer.{longest}

@@ -1,6 +1,6 @@
 -- What the integers of a lexer mean, and the integers of one. Every value has a meaning.
 -- Assumes nothing.
-use Rattle.std.specs.Prelude.{ℕ, Bool, not, cond, List, [], ◌∷◌, eqb, length, take, get_or}
+use Rattle.std.specs.Prelude.{ℕ, cond, List, [], ◌∷◌, eqb, length, take, get_or}
 use Rattle.feeding.specs.Tracker as T
 use Rattle.feeding.specs.Fed as F
 use Rattle.feeding.specs.Lexer as L
@@ -10,7 +10,6 @@ use Rattle.parts.specs.declared.state.State as D
 use Rattle.parts.specs.declared.state.State.TheVariants as X
 use Rattle.parts.specs.declared.packed.Machine.{Machine}
 use Rattle.parts.specs.declared.pend.Pend.{Pend}
-use Rattle.parts.specs.declared.Last.{Last}
 use Rattle.parts.specs.declared.Lexer.{Lexer}
 
 -- ---- the machine between two characters

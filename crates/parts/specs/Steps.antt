@@ -13,7 +13,7 @@ use Rattle.lexer.specs.Cut.{Letters}
 use Rattle.locality.specs.Machine.{eats, halts}
 use Rattle.locality.specs.Phases.{act, first}
 use Rattle.feeding.specs.Tracker.{fresh, seen}
-use Rattle.feeding.specs.Fed.{Rec, words, State, idle, busy, held, ended, feed, feeds, last_of, finish}
+use Rattle.feeding.specs.Fed.{Rec, words, State, idle, busy, held, ended, feeds, last_of, finish}
 use Rattle.feeding.specs.Begun.{whole, beyond, fault_of}
 use Rattle.feeding.specs.Lexer.{Lexer, fits, taken, running}
 use Rattle.feeding.specs.Call.{not_open, known_in_parts, fed_to, given, fed_all, next_begun, keeps, accepted}

@@ -29,22 +29,22 @@ pub overflow_cast-w : goal.overflow_cast-w
 overflow_cast-w c = search (rules, accepting)
 
 pub keep-n-requires : goal.keep-n-requires
-keep-n-requires c = front_within c.requires c.end_Before.ensures c.less.ensures
+keep-n-requires c = front_within c.requires c.end_before-early.ensures c.less.ensures
 
 pub overflow_cast-call : goal.overflow_cast-call
 overflow_cast-call c = omega (arith, chunk_small c.requires)
 
 pub overflow_sub-call : goal.overflow_sub-call
-overflow_sub-call c = omega (arith, early_after c.requires c.end_Before.ensures)
+overflow_sub-call c = omega (arith, early_after c.requires c.end_before-early.ensures)
 
 pub overflow_cast-call-2 : goal.overflow_cast-call-2
-overflow_cast-call-2 c = omega (arith, early_small c.requires c.end_Before.ensures)
+overflow_cast-call-2 c = omega (arith, early_small c.requires c.end_before-early.ensures)
 
 pub overflow_cast-call-3 : goal.overflow_cast-call-3
-overflow_cast-call-3 c = omega (arith, kept_small c.requires c.end_Before.ensures c.less.ensures c.less-2.ensures c.keep-n.ensures)
+overflow_cast-call-3 c = omega (arith, kept_small c.requires c.end_before-early.ensures c.less.ensures c.less-2.ensures c.keep-n.ensures)
 
 pub behind-lexer-requires : goal.behind-lexer-requires
 behind-lexer-requires c = fed_fits c.requires
 
 pub returns : goal.returns
-returns c = accepted_is c.requires c.end_Before.ensures c.less.ensures c.less-2.ensures c.keep-n.ensures _ refl refl c.behind-lexer.ensures
+returns c = accepted_is c.requires c.end_before-early.ensures c.less.ensures c.less-2.ensures c.keep-n.ensures _ refl refl c.behind-lexer.ensures

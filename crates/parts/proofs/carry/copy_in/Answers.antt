@@ -1,4 +1,3 @@
-use Prim.Native.Nat.{◌-◌}
 use Rattle.parts.proofs.Keeping.{copying_none, copying_more, copying_full, copying_end}
 use borrow.Author.Rules.{rules}
 use Rattle.parts.proofs.carry.copy_in.Goals as goal

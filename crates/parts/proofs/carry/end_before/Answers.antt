@@ -1,4 +1,4 @@
-use Prim.Native.Nat.{◌+◌, ◌-◌, ◌*◌}
+use Prim.Native.Nat.{◌+◌, ◌*◌}
 use native.Mathlib.Omega.{arith}
 use Rattle.parts.proofs.Keeping.{ending_none, ending_more, ending_stop, ending_end}
 use borrow.Author.Rules.{rules}

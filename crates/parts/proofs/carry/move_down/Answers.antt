@@ -1,4 +1,3 @@
-use Prim.Native.Nat.{◌-◌}
 use Rattle.parts.proofs.Keeping.{moving_none, moving_more, moving_end}
 use borrow.Author.Rules.{rules}
 use Rattle.parts.proofs.carry.move_down.Goals as goal

@@ -1,3 +1,5 @@
+use mathlib.Core.Path.{ap}
+use mathlib.Core.Bool.{not}
 use native.Mathlib.Omega.{arith}
 use borrow.Author.Rules.{rules}
 use Rattle.feeding.proofs.Running.{Runs}
@@ -16,10 +18,10 @@ returns-then-x-chunk c = search (rules, checks)
 
 pub scan_all-requires : goal.scan_all-requires
 scan_all-requires c =
-    let r : Runs (meaning c.args.x) = open_runs c.args.x c.is_running.ensures c.if-not-is_running.false-raw in
+    let r : Runs (meaning c.args.x) = open_runs c.args.x c.is_running.ensures (ap not c.if-not-is_running.false) in
     search rules
 
 pub returns : goal.returns
 returns c =
     let a = c.args in
-    check_so a.x a.last a.chunk.now c.is_running.ensures c.if-not-is_running.false-raw c.if-x-ge2.false (omega arith) c.if-x-chunk.false c.scan_all.ensures
+    check_so a.x a.last a.chunk.now c.is_running.ensures (ap not c.if-not-is_running.false) c.if-x-ge2.false (omega arith) c.if-x-chunk.false c.scan_all.ensures

@@ -1,4 +1,3 @@
-use Prim.Native.Nat.{◌-◌}
 use native.Mathlib.Omega.{arith}
 use Rattle.characters.proofs.Text.{decoded_fits, decoded_some}
 use Rattle.parts.proofs.Passing.{feedings}

@@ -5,34 +5,25 @@ use Rattle.parts.proofs.question.text.Goals as goal
 
 pub overflow_add-until : goal.overflow_add-until
 overflow_add-until c =
-    let p = c in
-    let a = p.args in
-    omega (arith, part_most a.lexer a.chunk.now a.carry.now a.start a.len p.text_place-p.ensures 18446744073709551615 (omega arith) (omega arith))
+    let a = c.args in
+    omega (arith, part_most a.lexer a.chunk.now a.carry.now a.start a.len c.text_place-p.ensures 18446744073709551615 (omega arith) (omega arith))
 
--- UNMATCHED slice-bounds-result-end
-part-result-end : tie.Need-slice-bounds-result-end
-part-result-end c =
-    let p = c.before.before.before in
-    let a = p.before.before.before.args in
-    omega (arith, carry_part a.lexer a.chunk.now a.carry.now a.start a.len p.text-place.ensures c.if1.true)
+pub slice_bounds-result-end : goal.slice_bounds-result-end
+slice_bounds-result-end c =
+    let a = c.args in
+    omega (arith, carry_part a.lexer a.chunk.now a.carry.now a.start a.len c.text_place-p.ensures c.if-p-eq2.true)
 
-
--- UNMATCHED slice-bounds-result-end-2
-part-result-end-2 : tie.Need-slice-bounds-result-end-2
-part-result-end-2 c =
-    let p = c.before.before.before in
-    let a = p.before.before.before.args in
-    omega (arith, chunk_part a.lexer a.chunk.now a.carry.now a.start a.len p.text-place.ensures c.if1.false)
-
+pub slice_bounds-result-end-else-p-eq2 : goal.slice_bounds-result-end-else-p-eq2
+slice_bounds-result-end-else-p-eq2 c =
+    let a = c.args in
+    omega (arith, chunk_part a.lexer a.chunk.now a.carry.now a.start a.len c.text_place-p.ensures c.if-p-eq2.false)
 
 pub returns-then-p-eq2 : goal.returns-then-p-eq2
 returns-then-p-eq2 c =
-    let p = c in
-    let a = p.args in
-    texted_carry a.lexer a.chunk.now a.carry.now a.start a.len p.text_place-p.ensures a.chunk.ref_ptr a.carry.ref_ptr refl c.if-p-eq2.true
+    let a = c.args in
+    texted_carry a.lexer a.chunk.now a.carry.now a.start a.len c.text_place-p.ensures a.chunk.ref_ptr a.carry.ref_ptr refl c.if-p-eq2.true
 
 pub returns-else-p-eq2 : goal.returns-else-p-eq2
 returns-else-p-eq2 c =
-    let p = c in
-    let a = p.args in
-    texted_chunk a.lexer a.chunk.now a.carry.now a.start a.len p.text_place-p.ensures a.chunk.ref_ptr a.carry.ref_ptr refl c.if-p-eq2.false
+    let a = c.args in
+    texted_chunk a.lexer a.chunk.now a.carry.now a.start a.len c.text_place-p.ensures a.chunk.ref_ptr a.carry.ref_ptr refl c.if-p-eq2.false
