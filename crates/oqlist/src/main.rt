@@ -109,13 +109,18 @@ fn answer(rt: &impl Print, words: usize, first: &[u8], input: &[u8]) -> io::Resu
     list_tokens(rt, words, first, input, &mut list)
 }
 
-// Tells on standard error, by the system's words for it, what went wrong. std puts the error's number behind them.
+// The system's words for an error, without the number that std puts behind them.
+fn words_of(whole: &str) -> &str {
+    match whole.rsplit_once(" (os error ") {
+        Some((words, _)) => words,
+        None => whole,
+    }
+}
+
+// Tells on standard error, by the system's words for it, what went wrong.
 fn fail<R: Eprint + Alloc>(rt: &R, what: &str, error: Error) -> io::Result<()> {
     let whole = format!(in rt.alloc(); "{error}")?;
-    let why = match whole.as_str().rsplit_once(" (os error ") {
-        Some((words, _)) => words,
-        None => whole.as_str(),
-    };
+    let why = words_of(whole.as_str());
     eprintln!(rt; "{what}: {why}")
 }
 

@@ -53,13 +53,18 @@ fn complain(rt: &HostRuntime, bytes: &[u8]) -> io::Result<()> {
     rt.stderr().write_all(bytes)
 }
 
-// Tells on standard error, by the system's words for it, what went wrong. std puts the error's number behind them.
+// The system's words for an error, without the number that std puts behind them.
+fn words_of(whole: &str) -> &str {
+    match whole.rsplit_once(" (os error ") {
+        Some((words, _)) => words,
+        None => whole,
+    }
+}
+
+// Tells on standard error, by the system's words for it, what went wrong.
 fn fail(rt: &HostRuntime, what: &[u8], error: Error) -> io::Result<()> {
     let whole = format!(in rt.alloc(); "{error}")?;
-    let why = match whole.as_str().rsplit_once(" (os error ") {
-        Some((words, _)) => words,
-        None => whole.as_str(),
-    };
+    let why = words_of(whole.as_str());
     complain(rt, what)?;
     eprintln!(rt; ": {why}")
 }
