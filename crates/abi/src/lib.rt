@@ -2,7 +2,7 @@
 // one call, under the promise of the function that it calls. include/oq3.h declares them.
 #![tactic(auto)]
 
-ghost use Rattle.std.specs.Prelude.{◌≡◌, true, false, ◌%◌};
+ghost use Rattle.std.specs.Prelude.{◌≡◌, true, false, [], ◌%◌, length};
 ghost use Rattle.characters.specs.Utf8.{valid_up_to};
 ghost use Rattle.characters.specs.Direction.{clean_up_to};
 ghost use Rattle.characters.specs.Text.{Decoded};
@@ -14,6 +14,7 @@ ghost use Rattle.listing.specs.Promises.{Listed};
 ghost use Rattle.modes.specs.Modes.{tested_mode, in_double_quotes, characters_should_be_ascii, is_unicode_escape_disallowed, has_prefix, is_raw};
 ghost use Rattle.modes.specs.Errors.{fatal};
 ghost use Rattle.unescape.specs.Promises.{Unescaped, part, single};
+ghost use Rattle.parts.specs.Promises.{Called, Placed, start_of, number_of};
 ghost use Rattle.renewal.specs.Promises.{Keyed};
 ghost use Rattle.rows.specs.Rows.{Rowed};
 ghost use Rattle.same.specs.Compare.{Compared, compared};
@@ -21,6 +22,7 @@ ghost use Rattle.same.specs.Places.{Placed, place_of};
 
 use characters::utf8::{Char, clean_up_to, decode, valid_up_to};
 use listing::tokenize;
+use parts::{Fed, Lexer};
 use renewal::renewal_key;
 use rows::{Token, tokenize_rows};
 use same::{Comparison, Place, compare, place_of};
@@ -68,6 +70,55 @@ pub extern "C" fn oq3_is_ident(text: &[u8]) -> Answer
     ensures { Answered (identified text.now) result.number result.also }
 {
     lexer::is_ident(text)
+}
+
+// ---- texts that come in parts
+#[unsafe(no_mangle)]
+pub extern "C" fn oq3_start(profile: u32) -> Lexer
+    ensures { result ≡ start_of profile }
+{
+    parts::start(profile)
+}
+
+#[unsafe(no_mangle)]
+pub extern "C" fn oq3_feed(lexer: Lexer, chunk: &[u8], carry: &mut [u8], list: &mut [u32]) -> Fed
+    ensures { Called lexer false chunk.now carry.old list.old result.answer.number result.answer.also result.lexer carry.new list.new }
+{
+    parts::feed(lexer, chunk, carry, list)
+}
+
+#[unsafe(no_mangle)]
+pub extern "C" fn oq3_finish(lexer: Lexer, carry: &mut [u8], list: &mut [u32]) -> Fed
+    ensures { Called lexer true [] carry.old list.old result.answer.number result.answer.also result.lexer carry.new list.new }
+{
+    parts::finish(lexer, carry, list)
+}
+
+// A part of a slice is no type of C's: it is told where it stands.
+#[unsafe(no_mangle)]
+pub extern "C" fn oq3_feed_text(
+    lexer: Lexer,
+    chunk_len: usize,
+    carry_len: usize,
+    start: usize,
+    len: usize,
+) -> parts::Place
+    ensures { Placed lexer chunk_len carry_len start len result.number result.which result.at result.len }
+{
+    parts::text_place(lexer, chunk_len, carry_len, start, len)
+}
+
+#[unsafe(no_mangle)]
+pub extern "C" fn oq3_feed_text_number(
+    lexer: Lexer,
+    chunk: &[u8],
+    carry: &[u8],
+    start: usize,
+    len: usize,
+) -> Answer
+    ensures { Answered (number_of lexer (length chunk.now) (length carry.now) start len, 0) result.number result.also }
+{
+    parts::text_number(lexer, chunk, carry, start, len)
 }
 
 // ---- the key

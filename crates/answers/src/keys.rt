@@ -4,6 +4,7 @@ use crate::tasks::{has_room, lent, shown};
 use crate::words;
 use crate::words::{Asked, Text, part};
 use renewal::renewal_key;
+use std::io;
 use text::Answer;
 
 // The most bytes of a key, eleven for each byte of the longest text.
@@ -32,17 +33,24 @@ fn shows(task: usize, given: Answer) -> bool {
 }
 
 // key and keyroom: what `renewal_key` answers, and the bytes.
-fn answer_in(task: usize, text: &[u8], asked: Asked, key: &mut Key) {
+fn answer_in(
+    rt: &impl Print,
+    task: usize,
+    text: &[u8],
+    asked: Asked,
+    key: &mut Key,
+) -> io::Result<()> {
     let given = call_in(task, text, asked, key);
-    print_answer(given);
+    print_answer(rt, given)?;
     if shows(task, given) {
-        print_hex(b" ", part(key, shown(task, asked, given)));
+        print_hex(rt, part(key, shown(task, asked, given)))?;
     }
+    Ok(())
 }
 
-pub fn answer(task: usize, text: &[u8], asked: Asked) {
+pub fn answer(rt: &impl Print, task: usize, text: &[u8], asked: Asked) -> io::Result<()> {
     let mut key = [0xA5u8; KEY];
-    answer_in(task, text, asked, &mut key);
+    answer_in(rt, task, text, asked, &mut key)
 }
 
 // Makes the key of the text that a word writes.
@@ -100,15 +108,14 @@ fn compare_words(words: &[u8]) -> Answer {
 }
 
 // pair: whether two texts share a key.
-pub fn pair(words: &[u8]) {
+pub fn pair(rt: &impl Print, words: &[u8]) -> io::Result<()> {
     let given = compare_words(words);
     if given.number != text::DONE {
-        print_answer(given);
-        return;
+        return print_answer(rt, given);
     }
     if given.also == 1 {
-        print(b"same")
+        print(rt, b"same")
     } else {
-        print(b"differ")
+        print(rt, b"differ")
     }
 }

@@ -5,6 +5,7 @@ use crate::records::{BLANK, LIST, List};
 use crate::words;
 use crate::words::{Text, part};
 use cutters::RECORD;
+use std::io;
 use text::Answer;
 
 // How many words are joined, of which the first stands before the first comma; 2 for more too.
@@ -18,35 +19,33 @@ fn count(joined: &[u8], first: &[u8]) -> usize {
     2
 }
 
-fn print_listing(given: Answer, list: &List) {
+fn print_listing(rt: &impl Print, given: Answer, list: &List) -> io::Result<()> {
     if given.number == text::DONE {
-        print(b"tokens");
-        print_also(given);
-        print_words(list, given.also as usize, RECORD, b" / ", b" ");
-        return;
+        print(rt, b"tokens")?;
+        print_also(rt, given)?;
+        return print_words(rt, list, given.also as usize, RECORD, b" / ", b" ");
     }
-    print(b"refused ");
-    print_number(given.number as u64);
-    print_also(given);
+    print(rt, b"refused ")?;
+    print_number(rt, given.number as u64)?;
+    print_also(rt, given)
 }
 
-fn list_in(joined: &[u8], text: &[u8], list: &mut List) {
+fn list_in(rt: &impl Print, joined: &[u8], text: &[u8], list: &mut List) -> io::Result<()> {
     let first = words::before(joined, b',');
     let given = arguments::list_asked(count(joined, first), first, text, list);
-    print_listing(given, list);
+    print_listing(rt, given, list)
 }
 
-fn read_in(arguments: &[u8], room: &mut Text, list: &mut List) {
+fn read_in(rt: &impl Print, arguments: &[u8], room: &mut Text, list: &mut List) -> io::Result<()> {
     let bytes = words::hex(words::rest(arguments), room);
     if !bytes.right {
-        refuse();
-        return;
+        return refuse(rt);
     }
-    list_in(words::first(arguments), part(room, bytes.count), list);
+    list_in(rt, words::first(arguments), part(room, bytes.count), list)
 }
 
-pub fn answer(arguments: &[u8]) {
+pub fn answer(rt: &impl Print, arguments: &[u8]) -> io::Result<()> {
     let mut room = [0u8; words::TEXT];
     let mut list = [BLANK; LIST];
-    read_in(arguments, &mut room, &mut list);
+    read_in(rt, arguments, &mut room, &mut list)
 }

@@ -2,21 +2,21 @@
 #![tactic(auto)]
 
 mod comparisons;
-mod histories;
 mod keys;
 mod lines;
 mod listings;
 mod numbers;
 mod output;
 mod records;
-mod spans;
 mod tasks;
 mod texts;
 mod words;
 
-fn main() {
+use std::io;
+
+fn main(rt: HostRuntime) -> io::Result<()> {
     let mut input = [0u8; lines::LINE];
     let mut line = [0u8; lines::LINE];
-    let have = lines::run(&mut input, &mut line);
-    lines::finish(&line, have);
+    let have = lines::run(&rt, &mut rt.reader(), &mut input, &mut line)?;
+    lines::finish(&rt, &line, have)
 }

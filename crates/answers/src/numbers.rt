@@ -1,13 +1,14 @@
 // The tasks on a number alone.
 use crate::output::{print, print_also, print_answer, print_number, refuse};
 use crate::{tasks, words};
+use std::io;
 
 fn bit(b: bool) -> u8 {
     if b { b'1' } else { b'0' }
 }
 
 // cp: what the tests on characters say of a code point.
-fn cp(c: u32) {
+fn cp(rt: &impl Print, c: u32) -> io::Result<()> {
     let bits = [
         bit(lexer::is_whitespace(c)),
         b' ',
@@ -19,34 +20,33 @@ fn cp(c: u32) {
         b' ',
         bit(ucd::is_white_space(c)),
     ];
-    print(&bits);
+    print(rt, &bits)
 }
 
 // mode: the four tests on a mode.
-fn mode(m: u32) {
+fn mode(rt: &impl Print, m: u32) -> io::Result<()> {
     let quotes = unescape::in_double_quotes(m);
-    print_answer(quotes);
+    print_answer(rt, quotes)?;
     if quotes.number != text::DONE {
-        return;
+        return Ok(());
     }
-    print_also(unescape::characters_should_be_ascii(m));
-    print_also(unescape::is_unicode_escape_disallowed(m));
-    print_also(unescape::prefix_noraw(m));
+    print_also(rt, unescape::characters_should_be_ascii(m))?;
+    print_also(rt, unescape::is_unicode_escape_disallowed(m))?;
+    print_also(rt, unescape::prefix_noraw(m))
 }
 
-pub fn answer(task: usize, arguments: &[u8]) {
+pub fn answer(rt: &impl Print, task: usize, arguments: &[u8]) -> io::Result<()> {
     let number = words::decimal(arguments);
     if !number.right {
-        refuse();
-        return;
+        return refuse(rt);
     }
     let n = number.value;
     match task {
-        tasks::CP => cp(n),
+        tasks::CP => cp(rt, n),
         // lowbyte: the low eight bits.
-        tasks::LOWBYTE => print_number(unescape::byte_from_char(n) as u64),
-        tasks::MODE => mode(n),
+        tasks::LOWBYTE => print_number(rt, unescape::byte_from_char(n) as u64),
+        tasks::MODE => mode(rt, n),
         // fatal: whether an error is fatal.
-        _ => print_answer(unescape::is_fatal(n)),
+        _ => print_answer(rt, unescape::is_fatal(n)),
     }
 }

@@ -1,7 +1,7 @@
-// What is printed. A write that fails goes unsaid: a program has no exit status.
+// What is printed. A write that fails ends the program.
 ghost use Rattle.std.specs.Prelude.{◌≤◌};
 
-use libc::STDOUT_FILENO;
+use std::io;
 use text::Answer;
 
 // The number of an answer that stands for what can't be read: the libraries give none so large.
@@ -14,75 +14,89 @@ pub fn unreadable() -> Answer {
     }
 }
 
-pub fn print(bytes: &[u8]) {
-    io::write_all(STDOUT_FILENO, bytes);
+pub fn print(rt: &impl Print, bytes: &[u8]) -> io::Result<()> {
+    rt.write_all(bytes)
 }
 
-pub fn print_number(number: u64) {
-    io::print_decimal(STDOUT_FILENO, number);
+pub fn print_number(rt: &impl Print, number: u64) -> io::Result<()> {
+    rt.print(number)
 }
 
-pub fn refuse() {
-    print(b"unreadable");
+pub fn refuse(rt: &impl Print) -> io::Result<()> {
+    print(rt, b"unreadable")
 }
 
-pub fn print_also(given: Answer) {
-    print(b" ");
-    print_number(given.also);
+pub fn print_also(rt: &impl Print, given: Answer) -> io::Result<()> {
+    print(rt, b" ")?;
+    print_number(rt, given.also)
 }
 
-pub fn print_answer(given: Answer) {
+pub fn print_answer(rt: &impl Print, given: Answer) -> io::Result<()> {
     if given.number == UNREADABLE {
-        refuse();
-        return;
+        return refuse(rt);
     }
-    print_number(given.number as u64);
-    print_also(given);
+    print_number(rt, given.number as u64)?;
+    print_also(rt, given)
 }
 
 // A word, with a mark before it.
-pub fn print_word(mark: &[u8], word: u32) {
-    print(mark);
-    print_number(word as u64);
+pub fn print_word(rt: &impl Print, mark: &[u8], word: u32) -> io::Result<()> {
+    print(rt, mark)?;
+    print_number(rt, word as u64)
 }
 
 // With one mark if it begins a record, else with the other.
-fn print_in(word: u32, begins: bool, before: &[u8], between: &[u8]) {
+fn print_in(
+    rt: &impl Print,
+    word: u32,
+    begins: bool,
+    before: &[u8],
+    between: &[u8],
+) -> io::Result<()> {
     if begins {
-        print_word(before, word)
+        print_word(rt, before, word)
     } else {
-        print_word(between, word)
+        print_word(rt, between, word)
     }
 }
 
 // The first n records of a list, each of so many words, with a mark before each record and one between its words; for a width of 1,
 // its first n words.
-pub fn print_words(list: &[u32], n: usize, width: usize, before: &[u8], between: &[u8])
+pub fn print_words(
+    rt: &impl Print,
+    list: &[u32],
+    n: usize,
+    width: usize,
+    before: &[u8],
+    between: &[u8],
+) -> io::Result<()>
     requires { 1 ≤ width }
 {
     let mut i = 0;
     while i < list.len() {
         if n <= i / width {
-            return;
+            return Ok(());
         }
-        print_in(list[i], i % width == 0, before, between);
+        print_in(rt, list[i], i % width == 0, before, between)?;
         i += 1;
     }
+    Ok(())
 }
 
-fn print_byte(b: u8) {
-    io::print_hex(STDOUT_FILENO, b as u64, 2);
+fn print_byte(rt: &impl Print, b: u8) -> io::Result<()> {
+    print!(rt; "{b:02x}")
 }
 
-// A mark, and two digits for each byte; a hyphen for none.
-pub fn print_hex(mark: &[u8], bytes: &[u8]) {
-    print(mark);
+// A space, and two digits for each byte; a hyphen for none.
+pub fn print_hex(rt: &impl Print, bytes: &[u8]) -> io::Result<()> {
+    print(rt, b" ")?;
     if bytes.len() == 0 {
-        print(b"-");
+        print(rt, b"-")?;
     }
     let mut i = 0;
     while i < bytes.len() {
-        print_byte(bytes[i]);
+        print_byte(rt, bytes[i])?;
         i += 1;
     }
+    Ok(())
 }

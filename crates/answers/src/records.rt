@@ -7,6 +7,7 @@ use crate::words::Asked;
 use crate::{tasks, words};
 use cutters::RECORD;
 use rows::{Row, Token, rows_of};
+use std::io;
 use text::Answer;
 
 // How many words an item has.
@@ -28,7 +29,7 @@ const FIRST_STR: u32 = 56;
 
 const LAST_STR: u32 = 61;
 
-pub fn wide(word: u32) -> usize
+fn wide(word: u32) -> usize
     ensures { result ≤ 4294967295 }
 {
     word as usize
@@ -138,43 +139,56 @@ fn width_of(task: usize) -> usize
     ITEM
 }
 
-fn answer_in(task: usize, text: &[u8], asked: Asked, list: &mut List) {
+fn answer_in(
+    rt: &impl Print,
+    task: usize,
+    text: &[u8],
+    asked: Asked,
+    list: &mut List,
+) -> io::Result<()> {
     let given = call_in(task, text, asked, list);
-    print_answer(given);
-    print_words(list, shown(task, asked, given), width_of(task), b" ", b",");
+    print_answer(rt, given)?;
+    print_words(
+        rt,
+        list,
+        shown(task, asked, given),
+        width_of(task),
+        b" ",
+        b",",
+    )
 }
 
-pub fn answer(task: usize, text: &[u8], asked: Asked) {
+pub fn answer(rt: &impl Print, task: usize, text: &[u8], asked: Asked) -> io::Result<()> {
     let mut list = [BLANK; LIST];
-    answer_in(task, text, asked, &mut list);
+    answer_in(rt, task, text, asked, &mut list)
 }
 
-fn print_record(t: Token) {
-    print_word(b" ", t.kind);
-    print_word(b" ", t.len);
-    print_word(b" ", t.suffix);
-    print_word(b" ", t.start);
-    print_word(b" ", t.misplaced);
+fn print_record(rt: &impl Print, t: Token) -> io::Result<()> {
+    print_word(rt, b" ", t.kind)?;
+    print_word(rt, b" ", t.len)?;
+    print_word(rt, b" ", t.suffix)?;
+    print_word(rt, b" ", t.start)?;
+    print_word(rt, b" ", t.misplaced)
 }
 
-fn print_row(row: Row, n: usize) {
+fn print_row(rt: &impl Print, row: Row, n: usize) -> io::Result<()> {
     let mut i = 0;
     while i < ROW {
         if n <= i {
-            return;
+            return Ok(());
         }
         let t = row[i];
-        print_record(t);
+        print_record(rt, t)?;
         i += 1;
     }
+    Ok(())
 }
 
 // rowroom: what `tokenize_rows` answers, and the row after it.
-pub fn rowroom(text: &[u8], asked: Asked) {
+pub fn rowroom(rt: &impl Print, text: &[u8], asked: Asked) -> io::Result<()> {
     let n = asked.second as usize;
     if ROW < n {
-        refuse();
-        return;
+        return refuse(rt);
     }
     let blank = Token {
         kind: BLANK,
@@ -185,6 +199,6 @@ pub fn rowroom(text: &[u8], asked: Asked) {
     };
     let given = rows_of(text, asked.first, [blank; 64], n);
     let row = given.row;
-    print_answer(given.answer);
-    print_row(row, n);
+    print_answer(rt, given.answer)?;
+    print_row(rt, row, n)
 }

@@ -4,10 +4,11 @@
 //     tok PROFILE HEX, unescape MODE HEX, key PROFILE HEX
 //     tokroom PROFILE WORDS HEX, itemroom MODE WORDS HEX, keyroom PROFILE BYTES HEX, rowroom PROFILE RECORDS HEX
 //     body PROFILE INDEX MODE HEX, pair PROFILE HEX HEX
-//     oqlist ARGUMENTS HEX, compare PROFILE HEX HEX, parts PROFILE STEPS
+//     oqlist ARGUMENTS HEX, compare PROFILE HEX HEX
 use crate::output::{UNREADABLE, print, print_answer, refuse};
 use crate::words::{Asked, Text, part};
-use crate::{comparisons, histories, keys, listings, numbers, records, texts, words};
+use crate::{comparisons, keys, listings, numbers, records, texts, words};
+use std::io;
 use text::Answer;
 
 // The numbers that the code names: a task's place among the names.
@@ -45,12 +46,10 @@ const OQLIST: usize = 17;
 
 const COMPARE: usize = 18;
 
-const PARTS: usize = 19;
-
-const UNKNOWN: usize = 20;
+const UNKNOWN: usize = 19;
 
 // The task of a line that is too long.
-const TOO_LONG: usize = 21;
+const TOO_LONG: usize = 20;
 
 fn task_of(line: &[u8], long: bool) -> usize {
     if long {
@@ -58,7 +57,7 @@ fn task_of(line: &[u8], long: bool) -> usize {
     }
     words::find(
         words::first(line),
-        b"cp lowbyte mode fatal utf8 ident char byte tok unescape key tokroom itemroom keyroom rowroom body pair oqlist compare parts",
+        b"cp lowbyte mode fatal utf8 ident char byte tok unescape key tokroom itemroom keyroom rowroom body pair oqlist compare",
     )
 }
 
@@ -107,54 +106,50 @@ pub fn shown(task: usize, asked: Asked, given: Answer) -> usize {
 }
 
 // Answers a task by its numbers and its text.
-fn on_text(task: usize, asked: Asked, text: &[u8]) {
+fn on_text(rt: &impl Print, task: usize, asked: Asked, text: &[u8]) -> io::Result<()> {
     if task <= BYTE {
-        print_answer(texts::answer(task, text));
-        return;
+        return print_answer(rt, texts::answer(task, text));
     }
     match task {
-        KEY | KEYROOM => keys::answer(task, text, asked),
-        ROWROOM => records::rowroom(text, asked),
-        _ => records::answer(task, text, asked),
+        KEY | KEYROOM => keys::answer(rt, task, text, asked),
+        ROWROOM => records::rowroom(rt, text, asked),
+        _ => records::answer(rt, task, text, asked),
     }
 }
 
 // Reads the numbers and the text.
-fn read_in(task: usize, arguments: &[u8], room: &mut Text) {
+fn read_in(rt: &impl Print, task: usize, arguments: &[u8], room: &mut Text) -> io::Result<()> {
     let asked = words::ask(arguments, numbers_of(task), room);
     if !asked.right {
-        refuse();
-        return;
+        return refuse(rt);
     }
-    on_text(task, asked, part(room, asked.count));
+    on_text(rt, task, asked, part(room, asked.count))
 }
 
-fn read(task: usize, arguments: &[u8]) {
+fn read(rt: &impl Print, task: usize, arguments: &[u8]) -> io::Result<()> {
     let mut room = [0u8; words::TEXT];
-    read_in(task, arguments, &mut room);
+    read_in(rt, task, arguments, &mut room)
 }
 
-fn answer(task: usize, arguments: &[u8]) {
+fn answer(rt: &impl Print, task: usize, arguments: &[u8]) -> io::Result<()> {
     if task <= FATAL {
-        numbers::answer(task, arguments);
-        return;
+        return numbers::answer(rt, task, arguments);
     }
     match task {
-        PAIR => keys::pair(arguments),
-        OQLIST => listings::answer(arguments),
-        COMPARE => comparisons::answer(arguments),
-        PARTS => histories::answer(arguments),
-        UNKNOWN => print(b"unknown"),
-        TOO_LONG => refuse(),
-        _ => read(task, arguments),
+        PAIR => keys::pair(rt, arguments),
+        OQLIST => listings::answer(rt, arguments),
+        COMPARE => comparisons::answer(rt, arguments),
+        UNKNOWN => print(rt, b"unknown"),
+        TOO_LONG => refuse(rt),
+        _ => read(rt, task, arguments),
     }
 }
 
 // Prints the line, of which `have` bytes were read, and its answer. Of a line too long the buffer has the beginning.
-pub fn answer_line(line: &[u8], have: usize) {
+pub fn answer_line(rt: &impl Print, line: &[u8], have: usize) -> io::Result<()> {
     let whole = part(line, have);
-    print(whole);
-    print(b" = ");
-    answer(task_of(whole, line.len() < have), words::rest(whole));
-    print(b"\n");
+    print(rt, whole)?;
+    print(rt, b" = ")?;
+    answer(rt, task_of(whole, line.len() < have), words::rest(whole))?;
+    print(rt, b"\n")
 }

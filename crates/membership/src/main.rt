@@ -3,7 +3,7 @@
 
 ghost use Rattle.std.specs.Prelude.{◌+◌, ◌≤◌, ◌<◌};
 
-use libc::STDOUT_FILENO;
+use std::io;
 
 #[derive(Clone, Copy)]
 struct Tally {
@@ -24,16 +24,16 @@ fn ask(test: u32, c: u32) -> bool {
     }
 }
 
-fn print_name(test: u32) {
+fn print_name(rt: &impl Print, test: u32) -> io::Result<()> {
     match test {
-        0 => io::write_all(STDOUT_FILENO, b"is_xid_start"),
-        1 => io::write_all(STDOUT_FILENO, b"is_xid_continue"),
-        2 => io::write_all(STDOUT_FILENO, b"is_emoji"),
-        3 => io::write_all(STDOUT_FILENO, b"is_white_space"),
-        4 => io::write_all(STDOUT_FILENO, b"is_whitespace"),
-        5 => io::write_all(STDOUT_FILENO, b"is_id_start"),
-        _ => io::write_all(STDOUT_FILENO, b"is_id_continue"),
-    };
+        0 => print!(rt; "is_xid_start"),
+        1 => print!(rt; "is_xid_continue"),
+        2 => print!(rt; "is_emoji"),
+        3 => print!(rt; "is_white_space"),
+        4 => print!(rt; "is_whitespace"),
+        5 => print!(rt; "is_id_start"),
+        _ => print!(rt; "is_id_continue"),
+    }
 }
 
 fn is_surrogate(c: u32) -> bool {
@@ -77,14 +77,11 @@ fn count(test: u32) -> Tally {
     }
 }
 
-fn print_range(low: u32, high: u32) {
-    io::print_hex(STDOUT_FILENO, low as u64, 4);
-    io::write_all(STDOUT_FILENO, b" ");
-    io::print_hex(STDOUT_FILENO, high as u64, 4);
-    io::write_all(STDOUT_FILENO, b"\n");
+fn print_range(rt: &impl Print, low: u32, high: u32) -> io::Result<()> {
+    println!(rt; "{low:04x} {high:04x}")
 }
 
-fn print_ranges(test: u32) {
+fn print_ranges(rt: &impl Print, test: u32) -> io::Result<()> {
     let mut inside = false;
     let mut low: u32 = 0;
     let mut high: u32 = 0;
@@ -100,31 +97,31 @@ fn print_ranges(test: u32) {
             }
             high = c;
         } else if inside {
-            print_range(low, high);
+            print_range(rt, low, high)?;
         }
         inside = member;
         c = c + 1;
     }
     if inside {
-        print_range(low, high);
+        print_range(rt, low, high)?;
     }
+    Ok(())
 }
 
-fn print_test(test: u32) {
-    let t = count(test);
-    print_name(test);
-    io::write_all(STDOUT_FILENO, b" asked ");
-    io::print_decimal(STDOUT_FILENO, t.asked);
-    io::write_all(STDOUT_FILENO, b" members ");
-    io::print_decimal(STDOUT_FILENO, t.members);
-    io::write_all(STDOUT_FILENO, b" ranges ");
-    io::print_decimal(STDOUT_FILENO, t.ranges);
-    io::write_all(STDOUT_FILENO, b"\n");
-    print_ranges(test);
+fn print_test(rt: &impl Print, test: u32) -> io::Result<()> {
+    let Tally {
+        asked,
+        members,
+        ranges,
+    } = count(test);
+    print_name(rt, test)?;
+    println!(rt; " asked {asked} members {members} ranges {ranges}")?;
+    print_ranges(rt, test)
 }
 
-fn main() {
+fn main(rt: HostRuntime) -> io::Result<()> {
     for test in 0..7u32 {
-        print_test(test);
+        print_test(&rt, test)?;
     }
+    Ok(())
 }

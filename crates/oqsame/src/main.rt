@@ -16,14 +16,27 @@
 
 mod kinds;
 
-ghost use Rattle.std.specs.Prelude.{◌≤◌, length};
+ghost use Rattle.std.specs.Prelude.{◌≤◌, length, IfOk};
 
-use libc::{STDERR_FILENO, STDOUT_FILENO};
 use same::{Comparison, Sight};
+use std::env::FillError;
+use std::io::{Error, Read};
+use std::rt::{Env, Files};
+use std::{fs, io};
 use text::Answer;
 
 // The most bytes of a file: the program's own limit. Both files stand on the stack.
 const MOST: usize = 1048576;
+
+// The most bytes of a file's name that the program reads, one more than the system takes.
+const NAME: usize = 4096;
+
+// The system's numbers for errors that the program itself finds.
+const EINVAL: i32 = 22;
+
+const ENAMETOOLONG: i32 = 36;
+
+const EILSEQ: i32 = 84;
 
 // Whether all of a file was read, and how many bytes that is.
 #[derive(Clone, Copy)]
@@ -32,206 +45,254 @@ struct Input {
     len: usize,
 }
 
-// Whether it was written, as of each function here that prints.
-fn print(bytes: &[u8]) -> bool {
-    io::write_all(STDOUT_FILENO, bytes)
+fn print(rt: &impl Print, bytes: &[u8]) -> io::Result<()> {
+    rt.write_all(bytes)
 }
 
-fn complain(bytes: &[u8]) {
-    io::write_all(STDERR_FILENO, bytes);
+fn complain(rt: &HostRuntime, bytes: &[u8]) -> io::Result<()> {
+    rt.stderr().write_all(bytes)
 }
 
-fn print_number(label: &[u8], number: u64) -> bool {
-    if !print(label) {
-        return false;
+// The system's words for an error, without the number that std puts behind them.
+fn words_of(whole: &str) -> &str {
+    match whole.rsplit_once(" (os error ") {
+        Some((words, _)) => words,
+        None => whole,
     }
-    io::print_decimal(STDOUT_FILENO, number)
 }
 
-fn print_kind(kind: u32) -> bool {
-    if !print_number(b" kind ", kind as u64) {
-        return false;
-    }
-    if !print(b" (") {
-        return false;
-    }
-    if !kinds::print_kind(kind) {
-        return false;
-    }
-    print(b")")
+// Tells on standard error, by the system's words for it, what went wrong.
+fn fail(rt: &HostRuntime, what: &[u8], error: Error) -> io::Result<()> {
+    let whole = format!(in rt.alloc(); "{error}")?;
+    let why = words_of(whole.as_str());
+    complain(rt, what)?;
+    eprintln!(rt; ": {why}")
 }
 
-fn print_place(text: &[u8], at: usize) -> bool {
+fn print_number(rt: &impl Print, label: &[u8], number: u64) -> io::Result<()> {
+    print(rt, label)?;
+    rt.print(number)
+}
+
+fn print_kind(rt: &impl Print, kind: u32) -> io::Result<()> {
+    print_number(rt, b" kind ", kind as u64)?;
+    print(rt, b" (")?;
+    kinds::print_kind(rt, kind)?;
+    print(rt, b")")
+}
+
+fn print_place(rt: &impl Print, text: &[u8], at: usize) -> io::Result<()> {
     let place = same::place_of(text, at);
-    if !print_number(b" line ", place.line as u64) {
-        return false;
-    }
-    print_number(b" column ", place.column as u64)
+    print_number(rt, b" line ", place.line as u64)?;
+    print_number(rt, b" column ", place.column as u64)
 }
 
-fn print_sight(label: &[u8], text: &[u8], sight: Sight) -> bool {
-    if !print(label) {
-        return false;
-    }
+fn print_sight(rt: &impl Print, label: &[u8], text: &[u8], sight: Sight) -> io::Result<()> {
+    print(rt, label)?;
     if sight.len == 0 {
-        return print(b" end");
+        return print(rt, b" end");
     }
-    if !print_kind(sight.kind) {
-        return false;
-    }
-    if !print_number(b" start ", sight.start as u64) {
-        return false;
-    }
-    if !print_number(b" length ", sight.len as u64) {
-        return false;
-    }
-    print_place(text, sight.start)
+    print_kind(rt, sight.kind)?;
+    print_number(rt, b" start ", sight.start as u64)?;
+    print_number(rt, b" length ", sight.len as u64)?;
+    print_place(rt, text, sight.start)
 }
 
-fn print_refusal(name: &[u8], given: Answer) -> bool {
-    if !print_number(b"refused ", given.number as u64) {
-        return false;
-    }
-    if !print_number(b" ", given.also) {
-        return false;
-    }
-    if !print(b" ") {
-        return false;
-    }
-    if !print(name) {
-        return false;
-    }
-    print(b"\n")
+fn print_refusal(rt: &impl Print, name: &[u8], given: Answer) -> io::Result<()> {
+    print_number(rt, b"refused ", given.number as u64)?;
+    print_number(rt, b" ", given.also)?;
+    print(rt, b" ")?;
+    print(rt, name)?;
+    print(rt, b"\n")
 }
 
-fn print_difference(old: &[u8], new: &[u8], c: Comparison) -> bool {
-    if !print_number(
-        b"different\ntoken ",
-        std::num::wrapping_add_u64(c.agreed as u64, 1),
-    ) {
-        return false;
-    }
-    if !print_sight(b", old", old, c.old) {
-        return false;
-    }
-    if !print_sight(b", new", new, c.new) {
-        return false;
-    }
-    print(b"\n")
+fn print_difference(rt: &impl Print, old: &[u8], new: &[u8], c: Comparison) -> io::Result<()> {
+    print_number(rt, b"different\ntoken ", (c.agreed as u64).wrapping_add(1))?;
+    print_sight(rt, b", old", old, c.old)?;
+    print_sight(rt, b", new", new, c.new)?;
+    print(rt, b"\n")
 }
 
-fn compare_texts(profile: u32, old: &[u8], old_name: &[u8], new: &[u8], new_name: &[u8]) -> bool {
+fn compare_texts(
+    rt: &impl Print,
+    profile: u32,
+    old: &[u8],
+    old_name: &[u8],
+    new: &[u8],
+    new_name: &[u8],
+) -> io::Result<()> {
     let c = same::compare(old, new, profile);
     if c.verdict == same::SAME {
-        return print(b"same\n");
+        return print(rt, b"same\n");
     }
     if c.verdict == same::OLD_REFUSED {
-        return print_refusal(old_name, c.refusal);
+        return print_refusal(rt, old_name, c.refusal);
     }
     if c.verdict == same::NEW_REFUSED {
-        return print_refusal(new_name, c.refusal);
+        return print_refusal(rt, new_name, c.refusal);
     }
-    print_difference(old, new, c)
+    print_difference(rt, old, new, c)
+}
+
+// Opens a file for reading. The system's names are bytes, and std's are text: a name that is no text is refused here.
+fn open<R: Files>(rt: &R, name: &[u8]) -> io::Result<R::File> {
+    match str::from_utf8(name) {
+        Ok(path) => fs::open(rt, path),
+        Err(_) => Err(Error::from_raw_os_error(EILSEQ)),
+    }
+}
+
+// Reads until the room is full, the file ends or a read fails, and answers how many bytes it put at the start of the room.
+fn read_full(file: &mut impl Read, room: &mut [u8]) -> usize
+    ensures { result ≤ length room.new }
+{
+    let mut done = 0;
+    while done < room.len() {
+        match file.read(&mut room[done..]) {
+            Ok(0) | Err(_) => break,
+            Ok(n) => done += n,
+        }
+    }
+    done
 }
 
 // Whether the file ends where reading stopped; if not, why it cannot be compared.
-fn ends(fd: i32, name: &[u8], n: usize) -> bool {
+fn ends(rt: &HostRuntime, file: &mut impl Read, name: &[u8], n: usize) -> io::Result<bool> {
     let mut one = [0u8; 1];
-    let got = libc::read(fd, &mut one);
-    if got == 0 {
-        return true;
+    let got = file.read(&mut one);
+    if let Ok(0) = got {
+        return Ok(true);
     }
-    complain(b"oqsame: ");
-    if got < 0 {
-        os::fail(name);
-        return false;
+    complain(rt, b"oqsame: ")?;
+    if let Err(e) = got {
+        fail(rt, name, e)?;
+        return Ok(false);
     }
-    complain(name);
+    complain(rt, name)?;
     if n < MOST {
-        complain(b": reading was interrupted\n");
-        return false;
+        complain(rt, b": reading was interrupted\n")?;
+        return Ok(false);
     }
-    complain(b": longer than ");
-    io::print_decimal(STDERR_FILENO, MOST as u64);
-    complain(b" bytes\n");
-    false
+    eprintln!(rt; ": longer than {MOST} bytes")?;
+    Ok(false)
 }
 
-fn read_file(name: &[u8], room: &mut [u8]) -> Input
-    ensures { result.len ≤ length room.new }
+fn read_file(rt: &HostRuntime, name: &[u8], room: &mut [u8]) -> io::Result<Input>
+    ensures { IfOk result (λ r. r.len ≤ length room.new) }
 {
-    let fd = os::open_read(name);
-    if fd < 0 {
-        complain(b"oqsame: ");
-        os::fail(name);
-        return Input {
-            whole: false,
-            len: 0,
-        };
+    match open(rt, name) {
+        Ok(mut file) => {
+            let len = read_full(&mut file, room);
+            let whole = ends(rt, &mut file, name, len)?;
+            Ok(Input { whole, len })
+        }
+        Err(e) => {
+            complain(rt, b"oqsame: ")?;
+            fail(rt, name, e)?;
+            Ok(Input {
+                whole: false,
+                len: 0,
+            })
+        }
     }
-    let len = io::read_full(fd, room);
-    let whole = ends(fd, name, len);
-    libc::close(fd);
-    Input { whole, len }
 }
 
-fn compare_files(profile: u32, old: &mut [u8], old_name: &[u8], new: &mut [u8], new_name: &[u8]) {
-    let first = read_file(old_name, old);
+fn compare_files(
+    rt: &HostRuntime,
+    profile: u32,
+    old: &mut [u8],
+    old_name: &[u8],
+    new: &mut [u8],
+    new_name: &[u8],
+) -> io::Result<()> {
+    let first = read_file(rt, old_name, old)?;
     if !first.whole {
-        return;
+        return Ok(());
     }
-    let second = read_file(new_name, new);
+    let second = read_file(rt, new_name, new)?;
     if !second.whole {
-        return;
+        return Ok(());
     }
     let a = first.len;
     let b = second.len;
-    if !compare_texts(profile, &old[0..a], old_name, &new[0..b], new_name) {
-        os::fail(b"oqsame: standard output");
+    match compare_texts(rt, profile, &old[0..a], old_name, &new[0..b], new_name) {
+        Ok(()) => Ok(()),
+        Err(e) => fail(rt, b"oqsame: standard output", e),
+    }
+}
+
+// The system's word for a name that was not read.
+fn cause(error: FillError) -> Error {
+    match error {
+        FillError::NotPresent => Error::from_raw_os_error(EINVAL),
+        FillError::TooLong => Error::from_raw_os_error(ENAMETOOLONG),
     }
 }
 
 // Reads the two names.
-fn run(profile: u32, old: &mut [u8; MOST], new: &mut [u8; MOST]) {
-    let mut old_name = io::buffer();
-    let a = os::arg(1, &mut old_name);
-    if os::errno() != 0 {
-        os::fail(b"oqsame: OLD");
-        return;
-    }
-    let mut new_name = io::buffer();
-    let b = os::arg(2, &mut new_name);
-    if os::errno() != 0 {
-        os::fail(b"oqsame: NEW");
-        return;
-    }
-    compare_files(profile, old, &old_name[..a], new, &new_name[..b]);
+fn run(
+    rt: &HostRuntime,
+    profile: u32,
+    old: &mut [u8; MOST],
+    new: &mut [u8; MOST],
+) -> io::Result<()> {
+    let mut old_name = [0u8; NAME];
+    let a = match rt.arg(1, &mut old_name) {
+        Ok(n) => n,
+        Err(e) => return fail(rt, b"oqsame: OLD", cause(e)),
+    };
+    let mut new_name = [0u8; NAME];
+    let b = match rt.arg(2, &mut new_name) {
+        Ok(n) => n,
+        Err(e) => return fail(rt, b"oqsame: NEW", cause(e)),
+    };
+    compare_files(rt, profile, old, &old_name[..a], new, &new_name[..b])
 }
 
 // Goes on where the words behind the two names, the first of which is lent, ask for a profile that is known.
-fn run_under(words: usize, first: &[u8]) {
+fn run_under(rt: &HostRuntime, words: usize, first: &[u8]) -> io::Result<()> {
     let checked = arguments::check_asked(words, first);
     if checked.number != text::DONE {
-        complain(b"oqsame: the profile, behind the two names, must be 0 or 1\n");
-        return;
+        return complain(
+            rt,
+            b"oqsame: the profile, behind the two names, must be 0 or 1\n",
+        );
     }
     let mut old = [0u8; MOST];
     let mut new = [0u8; MOST];
-    run(arguments::profile_asked(words, first), &mut old, &mut new);
+    run(
+        rt,
+        arguments::profile_asked(words, first),
+        &mut old,
+        &mut new,
+    )
 }
 
 // Reads the profile, if a word behind the two names is to name it. One that is longer than a profile's name is answered as an empty
 // one, which names none either.
-fn read_profile(words: usize) {
+fn read_profile(rt: &HostRuntime, words: usize) -> io::Result<()> {
     let mut first = [0u8; 1];
-    let n = os::arg(3, &mut first);
-    run_under(words, &first[..n]);
+    match rt.arg(3, &mut first) {
+        Ok(n) => run_under(rt, words, &first[..n]),
+        Err(_) => run_under(rt, words, b""),
+    }
 }
 
-fn main() {
-    match os::arg_count() {
-        3 => read_profile(0),
-        4 => read_profile(1),
-        _ => complain(b"usage: oqsame OLD NEW [PROFILE]\n"),
+// How many words the program was called by, its own name among them.
+fn arg_count(rt: &impl Env) -> usize {
+    let mut room = [0u8; 1];
+    for i in 0..usize::MAX {
+        if let Err(FillError::NotPresent) = rt.arg(i, &mut room) {
+            return i;
+        }
+    }
+    usize::MAX
+}
+
+fn main(rt: HostRuntime) -> io::Result<()> {
+    match arg_count(&rt) {
+        3 => read_profile(&rt, 0),
+        4 => read_profile(&rt, 1),
+        _ => complain(&rt, b"usage: oqsame OLD NEW [PROFILE]\n"),
     }
 }
