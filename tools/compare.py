@@ -11,7 +11,7 @@ the lengths before it, added up, are wanted. It says nothing of misplaced unders
                      [--short N] [--random N] [--seed S] [--programs DIR]
 
 RELEASE and DEBUG are the program that answers cases with the crate, built without and with debug assertions; ANSWERS is
-target/bin/answers. Every text of at most N pieces of the alphabet is compared (--short), behind each of several beginnings with --underscores, then
+crates/answers/out/answers. Every text of at most N pieces of the alphabet is compared (--short), behind each of several beginnings with --underscores, then
 random texts of several sorts, and damaged ones, whole programs of DIR and damaged parts of them among them (not with --marks, --underscores and
 --bodies); with --digits there are no others, and --short, --random and --seed do nothing. PROGRAM answers the task five, records of five words as
 they are wanted: with --model the same cases are held to its answers too. With --parts every text of at most N pieces of each of several small sets is

@@ -14,7 +14,7 @@ ghost use Rattle.listing.specs.Promises.{Listed};
 ghost use Rattle.modes.specs.Modes.{tested_mode, in_double_quotes, characters_should_be_ascii, is_unicode_escape_disallowed, has_prefix, is_raw};
 ghost use Rattle.modes.specs.Errors.{fatal};
 ghost use Rattle.unescape.specs.Promises.{Unescaped, part, single};
-ghost use Rattle.parts.specs.Promises.{Called, Placed, start_of, number_of};
+ghost use Rattle.parts.specs.Promises.{Called, Placed as Located, start_of, number_of};
 ghost use Rattle.renewal.specs.Promises.{Keyed};
 ghost use Rattle.rows.specs.Rows.{Rowed};
 ghost use Rattle.same.specs.Compare.{Compared, compared};
@@ -103,7 +103,7 @@ pub extern "C" fn oq3_feed_text(
     start: usize,
     len: usize,
 ) -> parts::Place
-    ensures { Placed lexer chunk_len carry_len start len result.number result.which result.at result.len }
+    ensures { Located lexer chunk_len carry_len start len result.number result.which result.at result.len }
 {
     parts::text_place(lexer, chunk_len, carry_len, start, len)
 }

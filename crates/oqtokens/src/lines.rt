@@ -2,7 +2,8 @@
 ghost use Rattle.std.specs.Prelude.{◌≤◌};
 
 use cutters::RECORD;
-use libc::STDOUT_FILENO;
+use std::io;
+use std::io::{Cursor, Write};
 use text::Answer;
 
 // The most bytes that are gathered.
@@ -13,39 +14,26 @@ pub type Lines = [u8; LINES];
 // What a number and the mark behind it take at most.
 const WORD: usize = 21;
 
-// Whether it was written, as of each function here that prints.
-fn print(bytes: &[u8]) -> bool {
-    io::write_all(STDOUT_FILENO, bytes)
+fn print(rt: &impl Print, bytes: &[u8]) -> io::Result<()> {
+    rt.write_all(bytes)
 }
 
-fn print_number(number: u64) -> bool {
-    io::print_decimal(STDOUT_FILENO, number)
+fn print_number(rt: &impl Print, number: u64) -> io::Result<()> {
+    rt.print(number)
 }
 
-pub fn print_refusal(given: Answer) -> bool {
-    if !print(b"refused ") {
-        return false;
-    }
-    if !print_number(given.number as u64) {
-        return false;
-    }
-    if !print(b" ") {
-        return false;
-    }
-    if !print_number(given.also) {
-        return false;
-    }
-    print(b"\n")
+pub fn print_refusal(rt: &impl Print, given: Answer) -> io::Result<()> {
+    print(rt, b"refused ")?;
+    print_number(rt, given.number as u64)?;
+    print(rt, b" ")?;
+    print_number(rt, given.also)?;
+    print(rt, b"\n")
 }
 
-pub fn print_total(count: u64) -> bool {
-    if !print(b"tokens ") {
-        return false;
-    }
-    if !print_number(count) {
-        return false;
-    }
-    print(b"\n")
+pub fn print_total(rt: &impl Print, count: u64) -> io::Result<()> {
+    print(rt, b"tokens ")?;
+    print_number(rt, count)?;
+    print(rt, b"\n")
 }
 
 // What stands behind a word of the list.
@@ -84,34 +72,33 @@ fn put_all(out: &mut Lines, at: usize, bytes: &[u8]) -> usize {
     now
 }
 
-fn put_word(out: &mut Lines, at: usize, word: u32, mark: u8) -> usize {
-    let mut digits = [0u8; 20];
-    let n = io::decimal(word as u64, &mut digits);
-    let end = put_all(out, at, &digits[..n]);
-    put(out, end, mark)
+fn put_word(out: &mut Lines, at: usize, word: u32, mark: u8) -> io::Result<usize> {
+    let mut digits = Cursor::new([0u8; 20]);
+    write!(digits, "{word}")?;
+    let n = digits.position() as usize;
+    let end = put_all(out, at, part(digits.get_ref(), n));
+    Ok(put(out, end, mark))
 }
 
 // Writes what is gathered.
-fn print_lines(out: &Lines, n: usize) -> bool {
-    print(part(out, n))
+fn print_lines(rt: &impl Print, out: &Lines, n: usize) -> io::Result<()> {
+    print(rt, part(out, n))
 }
 
 // The first n records of the list, one a line.
-pub fn print_records(list: &[u32], n: u64, out: &mut Lines) -> bool {
+pub fn print_records(rt: &impl Print, list: &[u32], n: u64, out: &mut Lines) -> io::Result<()> {
     let mut i = 0;
     let mut at = 0;
     while i < list.len() {
         if n <= (i / RECORD) as u64 {
-            return print_lines(out, at);
+            return print_lines(rt, out, at);
         }
         if LINES - WORD < at {
-            if !print_lines(out, at) {
-                return false;
-            }
+            print_lines(rt, out, at)?;
             at = 0;
         }
-        at = put_word(out, at, list[i], gap(i));
+        at = put_word(out, at, list[i], gap(i))?;
         i += 1;
     }
-    print_lines(out, at)
+    print_lines(rt, out, at)
 }

@@ -6,15 +6,18 @@
 // refusal and 2 for all else.
 #![tactic(auto)]
 
-ghost use Rattle.std.specs.Prelude.{◌≤◌, length};
+ghost use Rattle.std.specs.Prelude.{◌≤◌, length, IfOk};
 
 mod lines;
 
 use arguments::{check_asked, profile_asked};
 use cutters::RECORD;
-use libc::STDIN_FILENO;
 use lines::{Lines, print_records, print_refusal, print_total};
 use parts::{Fed, Lexer};
+use std::env::FillError;
+use std::io;
+use std::io::{Error, Read};
+use std::rt::Env;
 
 // The most bytes that are read at once.
 const CHUNK: usize = 4096;
@@ -26,21 +29,11 @@ const LIST: usize = RECORD * (CHUNK + 5);
 
 type List = [u32; LIST];
 
-// Whether reading went well, and how many bytes there are.
-#[derive(Clone, Copy)]
-struct Input {
-    whole: bool,
-    len: usize,
-}
-
 // One read of standard input: none of it is left where it went well and gave no byte.
-fn read_some(room: &mut [u8]) -> Input
-    ensures { result.len ≤ length room.new }
+fn read_some(input: &mut impl Read, room: &mut [u8]) -> io::Result<usize>
+    ensures { IfOk result (λ n. n ≤ length room.new) }
 {
-    let got = libc::read(STDIN_FILENO, room);
-    let whole = 0 <= got;
-    let len = io::count(got, room);
-    Input { whole, len }
+    input.read(room)
 }
 
 // The next chunk, or the end where there is none. No text is asked for, so that no carry is lent.
@@ -52,10 +45,26 @@ fn take(lexer: Lexer, chunk: &[u8], list: &mut List) -> Fed {
     parts::feed(lexer, chunk, &mut carry[..0], list)
 }
 
+// The system's words for an error, without the number that std puts behind them.
+fn words_of(whole: &str) -> &str {
+    match whole.rsplit_once(" (os error ") {
+        Some((words, _)) => words,
+        None => whole,
+    }
+}
+
+// Tells on standard error, by the system's words for it, what went wrong.
+fn fail<R: Eprint + Alloc>(rt: &R, what: &str, error: Error) -> io::Result<()> {
+    let whole = format!(in rt.alloc(); "{error}")?;
+    let why = words_of(whole.as_str());
+    eprintln!(rt; "{what}: {why}")
+}
+
 // Tells where it was not written.
-fn tell(written: bool) {
-    if !written {
-        os::fail(b"oqtokens: standard output");
+fn tell<R: Eprint + Alloc>(rt: &R, written: io::Result<()>) -> io::Result<()> {
+    match written {
+        Ok(()) => Ok(()),
+        Err(e) => fail(rt, "oqtokens: standard output", e),
     }
 }
 
@@ -68,54 +77,77 @@ struct Turn {
 }
 
 // Prints what a chunk hands out, and what ends the listing.
-fn print_turn(fed: Fed, count: u64, last: bool, list: &List, out: &mut Lines) -> Turn {
+fn print_turn<R: Print + Eprint + Alloc>(
+    rt: &R,
+    fed: Fed,
+    count: u64,
+    last: bool,
+    list: &List,
+    out: &mut Lines,
+) -> io::Result<Turn> {
     let lexer = fed.lexer;
     let given = fed.answer;
-    let sum = std::num::wrapping_add_u64(count, given.also);
+    let sum = count.wrapping_add(given.also);
     let ends = Turn {
         more: false,
         lexer,
         count: sum,
     };
     if given.number != text::DONE {
-        tell(print_refusal(given));
-        return ends;
+        tell(rt, print_refusal(rt, given))?;
+        return Ok(ends);
     }
-    if !print_records(list, given.also, out) {
-        tell(false);
-        return ends;
+    if let Err(e) = print_records(rt, list, given.also, out) {
+        tell(rt, Err(e))?;
+        return Ok(ends);
     }
     if last {
-        tell(print_total(sum));
-        return ends;
+        tell(rt, print_total(rt, sum))?;
+        return Ok(ends);
     }
-    Turn {
+    Ok(Turn {
         more: true,
         lexer,
         count: sum,
-    }
+    })
 }
 
-fn take_turn(now: Turn, chunk: &mut [u8], list: &mut List, out: &mut Lines) -> Turn {
+fn take_turn<R: Print + Eprint + Alloc>(
+    rt: &R,
+    input: &mut impl Read,
+    now: Turn,
+    chunk: &mut [u8],
+    list: &mut List,
+    out: &mut Lines,
+) -> io::Result<Turn> {
     let lexer = now.lexer;
     let count = now.count;
-    let input = read_some(chunk);
-    if !input.whole {
-        os::fail(b"oqtokens: standard input");
-        return Turn {
-            more: false,
-            lexer,
-            count,
-        };
+    match read_some(input, chunk) {
+        Ok(n) => {
+            let fed = take(lexer, &chunk[0..n], list);
+            print_turn(rt, fed, count, n == 0, list, out)
+        }
+        Err(e) => {
+            fail(rt, "oqtokens: standard input", e)?;
+            Ok(Turn {
+                more: false,
+                lexer,
+                count,
+            })
+        }
     }
-    let n = input.len;
-    let fed = take(lexer, &chunk[0..n], list);
-    print_turn(fed, count, n == 0, list, out)
 }
 
 // Goes through the input. A proved loop has to end, and nothing says that the input does. So the loop counts its turns down, from a number that no
 // run uses up.
-fn list_input(profile: u32, chunk: &mut Chunk, list: &mut List, out: &mut Lines) {
+fn list_input<R: Print + Eprint + Input + Alloc>(
+    rt: &R,
+    profile: u32,
+    chunk: &mut Chunk,
+    list: &mut List,
+    out: &mut Lines,
+) -> io::Result<()> {
+    let mut input = rt.reader();
     let mut now = Turn {
         more: true,
         lexer: parts::start(profile),
@@ -123,38 +155,48 @@ fn list_input(profile: u32, chunk: &mut Chunk, list: &mut List, out: &mut Lines)
     };
     let mut turns = u64::MAX;
     while 0 < turns {
-        now = take_turn(now, chunk, list, out);
+        now = take_turn(rt, &mut input, now, chunk, list, out)?;
         if !now.more {
-            return;
+            return Ok(());
         }
         turns -= 1;
     }
+    Ok(())
 }
 
-fn run(words: usize, first: &[u8]) {
+fn run<R: Print + Eprint + Input + Alloc>(rt: &R, words: usize, first: &[u8]) -> io::Result<()> {
     let checked = check_asked(words, first);
     if checked.number != text::DONE {
-        tell(print_refusal(checked));
-        return;
+        return tell(rt, print_refusal(rt, checked));
     }
     let mut chunk = [0u8; CHUNK];
     let mut list = [0u32; LIST];
     let mut out = [0u8; lines::LINES];
-    list_input(profile_asked(words, first), &mut chunk, &mut list, &mut out);
+    list_input(
+        rt,
+        profile_asked(words, first),
+        &mut chunk,
+        &mut list,
+        &mut out,
+    )
 }
 
 // How many words stand behind the program's name.
-fn words() -> usize {
-    let all = os::arg_count();
-    if all == 0 {
-        return 0;
+fn words(rt: &impl Env) -> usize {
+    let mut room = [0u8; 1];
+    for i in 1..usize::MAX {
+        if let Err(FillError::NotPresent) = rt.arg(i, &mut room) {
+            return i - 1;
+        }
     }
-    all - 1
+    usize::MAX
 }
 
 // Reads the first word. One that is longer than a profile's name is answered as an empty one, which names none either.
-fn main() {
+fn main(rt: HostRuntime) -> io::Result<()> {
     let mut first = [0u8; 1];
-    let n = os::arg(1, &mut first);
-    run(words(), &first[..n]);
+    match rt.arg(1, &mut first) {
+        Ok(n) => run(&rt, words(&rt), &first[..n]),
+        Err(_) => run(&rt, words(&rt), b""),
+    }
 }
