@@ -1,7 +1,7 @@
 -- The text question: the text of a span of the whole text that lies in the tokens of the last accepted call, by the chunk of that call and the carry as that
 -- call left it. Every value has an answer: what is read lies in what is lent.
 -- Assumes nothing.
-use Rattle.std.specs.Prelude.{ℕ, ◌+◌, ◌-◌, min, Bool, not, cond, ◌&&◌, ◌||◌, List, [], eqb, leb, ltb, length, take, drop}
+use Rattle.std.specs.Prelude.{ℕ, ◌+◌, ◌-◌, min, Bool, not, cond, ◌&&◌, List, [], eqb, leb, ltb, length, take, drop}
 use Rattle.text.specs.Answer.{done}
 use Rattle.feeding.specs.Lexer.{Lexer}
 

@@ -1,11 +1,9 @@
 -- The codec, as `search` takes the laws; and that a state comes back from its numbers.
 -- Assumes nothing.
-use Prim.Native.Nat.{ℕ, suc, ◌≤◌, min}
-use mathlib.Core.Path.{◌≡◌, refl, ap, sym, ◌∙◌}
-use mathlib.Core.Bool.{Bool, true, false, not, cond}
-use lib.Dec.{eqb}
+use Prim.Native.Nat.{ℕ, ◌≤◌, min}
+use mathlib.Core.Path.{◌≡◌, refl}
+use mathlib.Core.Bool.{Bool, true, false, cond}
 use native.Mathlib.Omega.{arith}
-use borrow.Author.Tests.{ne_eqb}
 use Rattle.locality.specs.Phases as P
 use Rattle.feeding.specs.Lexer.{base_of as inBase}
 use Rattle.phases.specs.Coded.{line_of, base_of, seen_of, phase_of}

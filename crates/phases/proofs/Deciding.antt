@@ -2,15 +2,15 @@
 -- function of that state has promised.
 -- Assumes nothing.
 use Prim.Native.Nat.{ℕ}
-use mathlib.Core.Path.{◌≡◌, refl, sym, ◌∙◌}
-use mathlib.Core.Bool.{Bool, true, false, not, cond}
+use mathlib.Core.Path.{◌≡◌}
+use mathlib.Core.Bool.{Bool, false, cond}
 use mathlib.Core.List.{[], ◌∷◌}
 use lib.Dec.{ltb}
 use Rattle.cutters.specs.Kinds.{block_comment}
 use Rattle.lexer.specs.Cut.{Letters}
 use Rattle.lexer.specs.Unicode.{unicode}
 use Rattle.locality.specs.Machine.{Act, eats, halts}
-use Rattle.locality.specs.Phases.{Phase, Line, Seen, behind_slash, inside, closed, space, emoji_name, spelling, behind_at, behind_dollar, zero_first, pointed, decimals, behind_e, suffixed, line_acts, inside_acts, wire_acts, quote_acts, name_acts, suffix_acts, figure_acts, power_acts, act}
+use Rattle.locality.specs.Phases.{Phase, behind_slash, inside, closed, space, emoji_name, spelling, behind_at, behind_dollar, zero_first, pointed, decimals, behind_e, suffixed, line_acts, inside_acts, wire_acts, quote_acts, name_acts, suffix_acts, figure_acts, power_acts, act}
 use Rattle.phases.specs.Coded.{line_of, base_of, seen_of, phase_of, act_in, deepest}
 use Rattle.phases.specs.declared.Line as L
 use Rattle.phases.specs.declared.Base as B

@@ -1,14 +1,13 @@
 -- How each state ends its token at the end of the text, as `search` takes the laws.
 -- Assumes nothing.
 use Prim.Native.Nat.{ℕ}
-use mathlib.Core.Path.{◌≡◌, refl, sym, ◌∙◌}
+use mathlib.Core.Path.{◌≡◌, refl}
 use mathlib.Core.Bool.{Bool, true, false, not, cond}
-use mathlib.Core.List.{[], ◌∷◌}
 use Rattle.cutters.specs.Kinds.{block_comment, unclosed_comment, whitespace_kind, ident, hardware_ident, invalid_ident, at_sign, dollar, slash_mark, int, float}
 use Rattle.cutters.specs.Digits.{is_digit}
-use Rattle.lexer.specs.Cut.{Letters, is_unit}
+use Rattle.lexer.specs.Cut.{is_unit}
 use Rattle.phases.proofs.Ways.{letter_some}
-use Rattle.locality.specs.Machine.{Act, eats, halts}
+use Rattle.locality.specs.Machine.{Act, halts}
 use Rattle.locality.specs.Phases.{Phase, line_kind, seen_kind, act}
 use Rattle.phases.specs.Coded.{line_of, base_of, seen_of, phase_of, EndsWith}
 use Rattle.phases.specs.declared.Line as L

@@ -73,4 +73,4 @@ returns-in-22 c = search (rules, decoding)
 
 pub returns-in_default : goal.returns-in_default
 unfolding phase_at
-returns-in_default c = let x = c.args.c.number in  simp (ne_eqb x 1 (λ e. omega arith), ne_eqb x 2 (λ e. omega arith), ne_eqb x 3 (λ e. omega arith), ne_eqb x 4 (λ e. omega arith), ne_eqb x 5 (λ e. omega arith), ne_eqb x 6 (λ e. omega arith), ne_eqb x 7 (λ e. omega arith), ne_eqb x 8 (λ e. omega arith), ne_eqb x 9 (λ e. omega arith), ne_eqb x 10 (λ e. omega arith), ne_eqb x 11 (λ e. omega arith), ne_eqb x 12 (λ e. omega arith), ne_eqb x 13 (λ e. omega arith), ne_eqb x 14 (λ e. omega arith), ne_eqb x 15 (λ e. omega arith), ne_eqb x 16 (λ e. omega arith), ne_eqb x 17 (λ e. omega arith), ne_eqb x 18 (λ e. omega arith), ne_eqb x 19 (λ e. omega arith), ne_eqb x 20 (λ e. omega arith), ne_eqb x 21 (λ e. omega arith), ne_eqb x 22 (λ e. omega arith))
+returns-in_default c = let x = c.args.c.number in simp (ne_eqb x 1 (λ e. omega arith), ne_eqb x 2 (λ e. omega arith), ne_eqb x 3 (λ e. omega arith), ne_eqb x 4 (λ e. omega arith), ne_eqb x 5 (λ e. omega arith), ne_eqb x 6 (λ e. omega arith), ne_eqb x 7 (λ e. omega arith), ne_eqb x 8 (λ e. omega arith), ne_eqb x 9 (λ e. omega arith), ne_eqb x 10 (λ e. omega arith), ne_eqb x 11 (λ e. omega arith), ne_eqb x 12 (λ e. omega arith), ne_eqb x 13 (λ e. omega arith), ne_eqb x 14 (λ e. omega arith), ne_eqb x 15 (λ e. omega arith), ne_eqb x 16 (λ e. omega arith), ne_eqb x 17 (λ e. omega arith), ne_eqb x 18 (λ e. omega arith), ne_eqb x 19 (λ e. omega arith), ne_eqb x 20 (λ e. omega arith), ne_eqb x 21 (λ e. omega arith), ne_eqb x 22 (λ e. omega arith))

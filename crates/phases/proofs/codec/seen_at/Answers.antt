@@ -29,4 +29,4 @@ returns-in-5 c = rw c.in-5.is
 
 pub returns-in_default : goal.returns-in_default
 unfolding seen_at
-returns-in_default c = let x = c.args.n in  simp (ne_eqb x 0 (λ e. omega arith), ne_eqb x 1 (λ e. omega arith), ne_eqb x 2 (λ e. omega arith), ne_eqb x 3 (λ e. omega arith), ne_eqb x 4 (λ e. omega arith), ne_eqb x 5 (λ e. omega arith))
+returns-in_default c = let x = c.args.n in simp (ne_eqb x 0 (λ e. omega arith), ne_eqb x 1 (λ e. omega arith), ne_eqb x 2 (λ e. omega arith), ne_eqb x 3 (λ e. omega arith), ne_eqb x 4 (λ e. omega arith), ne_eqb x 5 (λ e. omega arith))
