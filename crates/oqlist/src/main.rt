@@ -2,8 +2,8 @@
 // many, and then kind, length, suffix start, start and misplaced underscore of each. Any other word, or a second one, is refused
 // before the input is looked at.
 //
-// What keeps it from reading or writing goes to standard error. It has no exit status of its own: the launcher gives 0 for
-// tokens, 1 for a refusal and 2 for all else.
+// What keeps it from reading or writing goes to standard error. It ends with 0 whatever it says, and with 1 where memory or standard
+// error fails: the launcher gives 0 for tokens, 1 for a refusal and 2 for all else.
 #![tactic(auto)]
 
 ghost use Rattle.std.specs.Prelude.{◌≤◌, length, IfOk};

@@ -10,8 +10,8 @@
 //     token NUMBER, old kind KIND (NAME OF THE KIND) start START length LENGTH line LINE column COLUMN, new end
 // or the answer to a file that is refused, with its name
 //     refused NUMBER ALSO NAME
-// What keeps it from comparing or writing goes to standard error. It has no exit status of its own: the launcher gives 0 for same, 1 for
-// different and 2 for all else.
+// What keeps it from comparing or writing goes to standard error. It ends with 0 whatever it says, and with 1 where memory or standard
+// error fails: the launcher gives 0 for same, 1 for different and 2 for all else.
 #![tactic(auto)]
 
 mod kinds;
