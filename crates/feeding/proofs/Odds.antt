@@ -150,19 +150,19 @@ closed_kind (bits false low) = omega arith
 closed_kind (broken two) = omega arith
 closed_kind other = omega arith
 
-open-kind : (s : Seen) → 56 ≤ seen_kind false s
-open-kind (bits true low) = omega arith
-open-kind (bits false low) = omega arith
-open-kind (broken true) = omega arith
-open-kind (broken false) = omega arith
-open-kind other = omega arith
+open_kind : (s : Seen) → 56 ≤ seen_kind false s
+open_kind (bits true low) = omega arith
+open_kind (bits false low) = omega arith
+open_kind (broken true) = omega arith
+open_kind (broken false) = omega arith
+open_kind other = omega arith
 
 past_numbers : (k : ℕ) → 56 ≤ k → is_number k ≡ false
 past_numbers k l = simp (lt-leb k 55 (omega arith), and_false)
 
-int-big : (base : ℕ) (e : Bool) → 40 ≤ int base e
-int-big base true = omega arith
-int-big base false = omega arith
+int_big : (base : ℕ) (e : Bool) → 40 ≤ int base e
+int_big base true = omega arith
+int_big base false = omega arith
 
 float_big : (base : ℕ) (e : Bool) → 40 ≤ float base e
 float_big base true = omega arith
@@ -186,7 +186,7 @@ module _ (b : List ℕ) (n m : ℕ) (o : Tracker) where
   wires l = ((λ any c t. live_step l c t), (wire_end l m hardware_ident refl refl, wire_end l m dollar refl refl))
 
   figs : (base : ℕ) → Live b n o → Figures (Good b n m o) base
-  figs base l = ((λ any c t. live_step l c t), (((λ c t. live_step l c t), (λ c t. live_step l c t)), (λ e. ends (int base e) (int-big base e) l)))
+  figs base l = ((λ any c t. live_step l c t), (((λ c t. live_step l c t), (λ c t. live_step l c t)), (λ e. ends (int base e) (int_big base e) l)))
 
   powers : (base : ℕ) → Live b n o → Powers (Good b n m o) base
   powers base l = ((λ any c t. live_step l c t), (λ e. ends (float base e) (float_big base e) l))
@@ -211,7 +211,7 @@ module _ (b : List ℕ) (n m : ℕ) (o : Tracker) where
   ways (decimals base) i = ((λ c t. live_step i c t), ((λ c t. live_step i c t), ends (float base false) (float_big base false) i))
   ways (behind_e base) i = ((λ c t. live_step i c t), powers base i)
   ways (power base any) i = powers base i
-  ways (quote escaped s) i = (plainly true (seen_kind false s) (past_numbers (seen_kind false s) (open-kind s)) (big (seen_kind false s) (omega (arith, open-kind s))), ((λ c t. closed_kind s), (λ e s c t. tt)))
+  ways (quote escaped s) i = (plainly true (seen_kind false s) (past_numbers (seen_kind false s) (open_kind s)) (big (seen_kind false s) (omega (arith, open_kind s))), ((λ c t. closed_kind s), (λ e s c t. tt)))
   ways (quote_closed k) i = ((λ c t. (omega arith, (λ e. absurd (false≢true (sym (past_numbers k i) ∙ e))))), plainly true k (past_numbers k i) (big k (omega arith)))
   ways (suffixed k) i = ((λ c t. (i.0, (λ e. shut_step (i.1 e) n c))), by_test (is_number k) (λ e. shut_end (i.1 e) k e) (λ e. none_end b m o k e (big k i.0)))
   ways (single k) i = plainly false k i.0 i.1

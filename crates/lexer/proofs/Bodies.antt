@@ -183,16 +183,16 @@ lf_first c x t e =
     rw (e, ne_eqb (1 + lfs (x ∷ t)) 0 (λ z. omega arith), ne_eqb (1 + lfs (x ∷ t)) 1 (λ z. omega arith)))
     (λ h. rw (e, h, ne_eqb (1 + lfs (x ∷ t)) 0 (λ z. omega arith)) (and_false (eqb (1 + lfs (x ∷ t)) 1)))
 
-open-bits : (d : List ℕ) → all is_bit (without_lf d) ≡ (all_plain d && one_at_end d)
+open_bits : (d : List ℕ) → all is_bit (without_lf d) ≡ (all_plain d && one_at_end d)
 unfolding all all_plain lfs last without_lf
-open-bits [] = refl
-open-bits (c ∷ []) = by_test (eqb c 0x0A) (λ e. rw e) (λ e. rw e (sym (and_true (is_bit c && true))))
-open-bits (c ∷ x ∷ t) =
+open_bits [] = refl
+open_bits (c ∷ []) = by_test (eqb c 0x0A) (λ e. rw e) (λ e. rw e (sym (and_true (is_bit c && true))))
+open_bits (c ∷ x ∷ t) =
     by_test (eqb c 0x0A)
     (λ e. rw (lf_bit c e, lf_first c x t e) (sym (and_false ((eqb c 0x0A || false) && all_plain (x ∷ t)))))
     (λ e.
     let z : 0 + lfs (x ∷ t) ≡ lfs (x ∷ t) = omega arith in
-    rw (e, z, open-bits (x ∷ t)) (sym (and_assoc (is_bit c) (all_plain (x ∷ t)) (one_at_end (x ∷ t)))))
+    rw (e, z, open_bits (x ∷ t)) (sym (and_assoc (is_bit c) (all_plain (x ∷ t)) (one_at_end (x ∷ t)))))
 
 -- the kind of a text that was seen whole
 kind_is : {d : List ℕ} {plain two b : Bool} {lines prev kind : ℕ} (closed : Bool) (rest : List ℕ) → Summary d plain lines two prev → b ≡ bits_by closed plain lines prev → kind ≡ cond b (bit_str closed two) (str closed) →
@@ -200,7 +200,7 @@ kind_is : {d : List ℕ} {plain two b : Bool} {lines prev kind : ℕ} (closed : 
 unfolding quote_kind
 kind_is {d} true rest s e k = k ∙ rw (e, s.plain_is, s.lines_is, s.two_is, cap (lfs d) 0 (omega arith), all_bits d)
 kind_is {d} false rest s e k =
-    k ∙ rw (e, s.plain_is, s.lines_is, s.two_is, s.prev_is, cap (lfs d) 0 (omega arith), cap (lfs d) 1 (omega arith), open-bits d)
+    k ∙ rw (e, s.plain_is, s.lines_is, s.two_is, s.prev_is, cap (lfs d) 0 (omega arith), cap (lfs d) 1 (omega arith), open_bits d)
 
 -- ---- the loop: what was seen, before what is left
 abbrev onto : List ℕ → Quote → Quote
@@ -254,7 +254,7 @@ kind_of_like : (b : Bool) (d e l k : List ℕ) → Like d e → quote_kind (reco
 unfolding quote_kind
 kind_of_like b d e l k (same p) = rw p
 kind_of_like true d e l k (rough p q) = rw (all_bits d, all_bits e, p, q)
-kind_of_like false d e l k (rough p q) = rw (open-bits d, open-bits e, p, q)
+kind_of_like false d e l k (rough p q) = rw (open_bits d, open_bits e, p, q)
 
 kind_alike : {q r : Quote} → Alike q r → quote_kind q ≡ quote_kind r
 kind_alike {q} {r} a =

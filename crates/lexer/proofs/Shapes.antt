@@ -76,11 +76,11 @@ float_listed octal b = on_cond (λ (k : ℕ). is_literal (50 + k) ≡ true) b re
 float_listed decimal b = on_cond (λ (k : ℕ). is_literal (52 + k) ≡ true) b refl refl
 float_listed hexadecimal b = on_cond (λ (k : ℕ). is_literal (54 + k) ≡ true) b refl refl
 
-int-listed : {base : ℕ} → Base base → is_literal (int base false) ≡ true
-int-listed binary = refl
-int-listed octal = refl
-int-listed decimal = refl
-int-listed hexadecimal = refl
+int_listed : {base : ℕ} → Base base → is_literal (int base false) ≡ true
+int_listed binary = refl
+int_listed octal = refl
+int_listed decimal = refl
+int_listed hexadecimal = refl
 
 ends_exponent : (t : List ℕ) → Ends (exponent t).1 t
 unfolding exponent
@@ -107,7 +107,7 @@ module _ {base : ℕ} (known : Base base) where
   fraction_part t =
       on_cond (Number t) (eqb (peek t) 0x2E)
       (part_of (ends_tail t) (point_part (tail t)))
-      (on_cond (Number t) (is_e (peek t)) (part_of (ends_tail t) (exponent_of_part (tail t))) (record { listed = int-listed known; ends = ends_all t }))
+      (on_cond (Number t) (is_e (peek t)) (part_of (ends_tail t) (exponent_of_part (tail t))) (record { listed = int_listed known; ends = ends_all t }))
 
   -- no digits: an empty Int, which is listed but for the decimal base
   based_part : (any : Bool) (t : List ℕ) → is_literal (int base true) ≡ true → Number t (based base any t)

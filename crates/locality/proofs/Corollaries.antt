@@ -52,15 +52,15 @@ module _ (profile : ℕ) where
   same_bytes a b v w e = counted_of profile b w ∙ ap written e ∙ sym (counted_of profile a v)
 
   -- ---- A NEWLINE AT THE END
-  open-quote : (z : Seen) (k : ℕ) → is_open k ≡ false → seen_kind false z ≡ k → ⊥
-  open-quote (bits true low) k h e = false≢true (sym h ∙ ap is_open (sym e))
-  open-quote (bits false low) k h e = false≢true (sym h ∙ ap is_open (sym e))
-  open-quote (broken true) k h e = false≢true (sym h ∙ ap is_open (sym e))
-  open-quote (broken false) k h e = false≢true (sym h ∙ ap is_open (sym e))
-  open-quote other k h e = false≢true (sym h ∙ ap is_open (sym e))
+  open_quote : (z : Seen) (k : ℕ) → is_open k ≡ false → seen_kind false z ≡ k → ⊥
+  open_quote (bits true low) k h e = false≢true (sym h ∙ ap is_open (sym e))
+  open_quote (bits false low) k h e = false≢true (sym h ∙ ap is_open (sym e))
+  open_quote (broken true) k h e = false≢true (sym h ∙ ap is_open (sym e))
+  open_quote (broken false) k h e = false≢true (sym h ∙ ap is_open (sym e))
+  open_quote other k h e = false≢true (sym h ∙ ap is_open (sym e))
 
   closes : (k : Token) → is_open k.kind ≡ false → Closes unicode unicode_usual profile k
-  closes k h n = record { no_space = n; no_comment = λ e. false≢true (sym h ∙ ap is_open e); no_quote = λ z e. open-quote z k.kind h e }
+  closes k h n = record { no_space = n; no_comment = λ e. false≢true (sym h ∙ ap is_open e); no_quote = λ z e. open_quote z k.kind h e }
 
   last_closes : (i : List Item) → last_is is_open (toks i) ≡ false → Lasts unicode unicode_usual profile (Closes unicode unicode_usual profile) i
   unfolding last_is
@@ -96,9 +96,9 @@ module _ (profile : ℕ) where
 
   -- ---- PUT IN
   -- the characters v behind x
-  inserted-bytes : (x r v : List ℕ) (at : ℕ) → all is_scalar x ≡ true → at ≡ byte_length x → inserted (encode_all (x ++ r)) at (encode_all v) ≡ encode_all (x ++ (v ++ r))
+  inserted_bytes : (x r v : List ℕ) (at : ℕ) → all is_scalar x ≡ true → at ≡ byte_length x → inserted (encode_all (x ++ r)) at (encode_all v) ≡ encode_all (x ++ (v ++ r))
   unfolding inserted
-  inserted-bytes x r v at h e =
+  inserted_bytes x r v at h e =
       let n : length (encode_all x) ≡ at = omega (arith, encode_bytes x h) in
       rw (encode_append x r, take_at (encode_all x) (encode_all r) at n, drop_at (encode_all x) (encode_all r) at n, encode_append x (v ++ r), encode_append v r)
 
@@ -108,18 +108,18 @@ module _ (profile : ℕ) where
       let q = all_append p y r (ap (all p) (sym t) ∙ f) in
       ap (all p) m ∙ all_join p y (v ++ r) q.0 (all_join p v r g q.1)
 
-  insert-bytes : {i j : List Item} {l r : List ℕ} (c : ℕ) (e : List ℕ) (k : Token) (v : List ℕ) (at : ℕ) → Cut i l (c ∷ (e ++ r)) → next_token unicode profile c (e ++ r) ≡ (k, r) → is_counted k.kind ≡ false → Cut j r [] →
+  insert_bytes : {i j : List Item} {l r : List ℕ} (c : ℕ) (e : List ℕ) (k : Token) (v : List ℕ) (at : ℕ) → Cut i l (c ∷ (e ++ r)) → next_token unicode profile c (e ++ r) ≡ (k, r) → is_counted k.kind ≡ false → Cut j r [] →
       Over unicode profile j i (texts i ++ c ∷ (e ++ (v ++ r))) → all is_scalar l ≡ true → all is_scalar v ≡ true → at ≡ total (toks i) + k.len →
       MadeOf v (encode_all l) (inserted (encode_all l) at (encode_all v)) × (members3 profile (inserted (encode_all l) at (encode_all v)) ≡ members3 profile (encode_all l))
   unfolding counted byte_length
-  insert-bytes {i} {j} {l} {r} c e k v at a x n b o f g p =
+  insert_bytes {i} {j} {l} {r} c e k v at a x n b o f g p =
       let y : List ℕ = texts i ++ c ∷ e in
       let t : l ≡ y ++ r = cuts_text unicode profile a ∙ sym (append_assoc (texts i) (c ∷ e) r) in
       let q = all_append is_scalar y r (ap (all is_scalar) (sym t) ∙ f) in
       let m : texts i ++ c ∷ (e ++ (v ++ r)) ≡ y ++ (v ++ r) = sym (append_assoc (texts i) (c ∷ e) (v ++ r)) in
       let h : at ≡ byte_length y = omega (arith, total_bytes unicode profile a, cut_length unicode profile c e r k x, bytes_append (texts i) (c ∷ e)) in
       let z : inserted (encode_all l) at (encode_all v) ≡ encode_all (texts i ++ c ∷ (e ++ (v ++ r))) =
-      ap (λ (w : List ℕ). inserted (encode_all w) at (encode_all v)) t ∙ inserted-bytes y r v at q.0 h ∙ ap encode_all (sym m) in
+      ap (λ (w : List ℕ). inserted (encode_all w) at (encode_all v)) t ∙ inserted_bytes y r v at q.0 h ∙ ap encode_all (sym m) in
       let u = with_more y v r t m in
       let w : all is_scalar (texts i ++ c ∷ (e ++ (v ++ r))) ≡ true = u is_scalar g f in
       let d : Cut (i ++ (k, c ∷ e) ∷ j) l [] = cuts_join unicode profile a (more refl x b) in
@@ -127,11 +127,11 @@ module _ (profile : ℕ) where
       (rw z (made_of v l (texts i ++ c ∷ (e ++ (v ++ r))) g f u), rw z (same_bytes d o.cuts f w s))
 
   -- behind a token of a text
-  insert-at : {s : List ℕ} {at : ℕ} {t : Token} (v : List ℕ) → WellFormed s → EndsAt (tokens3 profile) s at t → is_counted t.kind ≡ false → all is_scalar v ≡ true →
+  insert_at : {s : List ℕ} {at : ℕ} {t : Token} (v : List ℕ) → WellFormed s → EndsAt (tokens3 profile) s at t → is_counted t.kind ≡ false → all is_scalar v ≡ true →
       ((i j : List Item) (l r : List ℕ) (c : ℕ) (e : List ℕ) → Cut i l (c ∷ (e ++ r)) → next_token unicode profile c (e ++ r) ≡ (t, r) → Cut j r [] → Over unicode profile j i (texts i ++ c ∷ (e ++ (v ++ r)))) →
       MadeOf v s (inserted s at (encode_all v)) × (members3 profile (inserted s at (encode_all v)) ≡ members3 profile s)
   unfolding tokens3
-  insert-at {s} {at} {t} v f p n g over =
+  insert_at {s} {at} {t} v f p n g over =
       let e = well_formed_encoded s f in
       let y : tokens unicode profile e.of ≡ p.before ++ (t ∷ p.behind) = ap (tokens unicode profile) (sym (ap chars e.same ∙ read_all e.of e.scalars)) ∙ p.is in
       let a = split unicode profile p.before (t ∷ p.behind) e.of y in
@@ -140,7 +140,7 @@ module _ (profile : ℕ) where
       let c : Cut a.items e.of (b.head ∷ (b.text ++ b.left)) = rw b.is at a.cuts in
       let q : at ≡ total (toks a.items) + t.len = omega (arith, p.place, ap total a.same) in
       rw e.same
-      (insert-bytes b.head b.text t v at c b.cut n j.cuts (over a.items j.items e.of b.left b.head b.text c b.cut j.cuts) e.scalars g q)
+      (insert_bytes b.head b.text t v at c b.cut n j.cuts (over a.items j.items e.of b.left b.head b.text c b.cut j.cuts) e.scalars g q)
 
   -- v by its bytes
   as_bytes : {s : List ℕ} (at : ℕ) (v : List ℕ) (e : Encoded v) → MadeOf e.of s (inserted s at (encode_all e.of)) × (members3 profile (inserted s at (encode_all e.of)) ≡ members3 profile s) →
@@ -165,7 +165,7 @@ module _ (profile : ℕ) where
       let e = well_formed_encoded v g in
       let b : chars v ≡ e.of = ap chars e.same ∙ read_all e.of e.scalars in
       let w = whites e.of (ap (all is_whitespace) (sym b) ∙ h) in
-      as_bytes at v e (insert-at e.of f p n e.scalars (λ i j l r c d a x b. insert_white unicode unicode_usual profile c d t a x n b w))
+      as_bytes at v e (insert_at e.of f p n e.scalars (λ i j l r c d a x b. insert_white unicode unicode_usual profile c d t a x n b w))
 
   -- comments and white space put directly behind white space or a closed block comment: any text of tokens that do not count, of which the
   -- last is no line comment
@@ -179,7 +179,7 @@ module _ (profile : ℕ) where
       let y : tokens unicode profile (chars v) ≡ toks w.items = ap (tokens unicode profile) o ∙ w.same in
       let z = free t.kind k in
       as_bytes at v e
-      (insert-at e.of f p (free_uncounted z) e.scalars
+      (insert_at e.of f p (free_uncounted z) e.scalars
       (λ i j l r c d a x b. insert_chars unicode unicode_usual profile c d t a x z b w.cuts (ap none_count (sym y) ∙ m) (ap (last_is is_line) (sym y) ∙ h)))
 
 -- ---- CR LF FOR LF

@@ -25,8 +25,8 @@ large k h = rw (ne_eqb k 1 (λ e. omega arith), ne_eqb k 2 (λ e. omega arith), 
 abbrev Counts : ℕ × List ℕ → Type 0
 Counts r = is_counted r.0 ≡ true
 
-int-counts : (base : ℕ) (b : Bool) → is_counted (int base b) ≡ true
-int-counts base b = large (int base b) (omega arith)
+int_counts : (base : ℕ) (b : Bool) → is_counted (int base b) ≡ true
+int_counts base b = large (int base b) (omega arith)
 
 float_counts : (base : ℕ) (b : Bool) → is_counted (float base b) ≡ true
 float_counts base b = large (float base b) (omega arith)
@@ -44,11 +44,11 @@ point_counts base t =
 fraction_counts : (base : ℕ) (t : List ℕ) → Counts (fraction base t)
 unfolding fraction
 fraction_counts base t =
-    on_cond Counts (eqb (peek t) 0x2E) (point_counts base (tail t)) (on_cond Counts (is_e (peek t)) (exponent_counts base (tail t)) (int-counts base false))
+    on_cond Counts (eqb (peek t) 0x2E) (point_counts base (tail t)) (on_cond Counts (is_e (peek t)) (exponent_counts base (tail t)) (int_counts base false))
 
 based_counts : (base : ℕ) (any : Bool) (t : List ℕ) → Counts (based base any t)
 unfolding based
-based_counts base any t = on_cond Counts any (fraction_counts base t) (int-counts base true)
+based_counts base any t = on_cond Counts any (fraction_counts base t) (int_counts base true)
 
 number_counts : (c : ℕ) (t : List ℕ) → Counts (number c t)
 unfolding number

@@ -62,19 +62,19 @@ module _ (u : Letters) where
   near c r s e (single j) = alike refl
 
   -- inside a block comment nothing ends before a character
-  inside-eats : (d c : ℕ) (t : List ℕ) (b : Bool) (k : ℕ) → act u (inside d) (c ∷ t) ≡ halts b k → ⊥
+  inside_eats : (d c : ℕ) (t : List ℕ) (b : Bool) (k : ℕ) → act u (inside d) (c ∷ t) ≡ halts b k → ⊥
   unfolding act
-  inside-eats d c t b k h = never (past (closes c (peek t)) false (cond (leb d 1) closing (into (d - 1))) (past (opens c (peek t)) false (into (suc d)) h))
+  inside_eats d c t b k h = never (past (closes c (peek t)) false (cond (leb d 1) closing (into (d - 1))) (past (opens c (peek t)) false (into (suc d)) h))
 
   -- and from inside, the machine stays inside, or ends an unclosed comment
   pub data Inside : Phase → Type 0 where
-    in-deep : (d : ℕ) → Inside (inside d)
+    in_deep : (d : ℕ) → Inside (inside d)
     in_into : (d : ℕ) → Inside (into d)
     in_closing : Inside closing
 
-  inside-goes : (d c : ℕ) (t : List ℕ) (p : Phase) (b : Bool) → act u (inside d) (c ∷ t) ≡ eats b p → Inside p
+  inside_goes : (d c : ℕ) (t : List ℕ) (p : Phase) (b : Bool) → act u (inside d) (c ∷ t) ≡ eats b p → Inside p
   unfolding act
-  inside-goes d c t p b h =
+  inside_goes d c t p b h =
       by_test (opens c (peek t))
       (λ o.
       let y : eats false (into (suc d)) ≡ eats b p = rw o at h in
@@ -88,20 +88,20 @@ module _ (u : Letters) where
       (λ l.
       let y : eats false (inside d) ≡ eats b p = rw (o, l) at h in
       let w : inside d ≡ p = cc in
-      subst Inside w (in-deep d)))
+      subst Inside w (in_deep d)))
 
   -- there no token ends before a character, and at the end only an unclosed comment does
-  inside-none : {p : Phase} (c : ℕ) (t : List ℕ) (b : Bool) (k : ℕ) → Inside p → act u p (c ∷ t) ≡ halts b k → ⊥
+  inside_none : {p : Phase} (c : ℕ) (t : List ℕ) (b : Bool) (k : ℕ) → Inside p → act u p (c ∷ t) ≡ halts b k → ⊥
   unfolding act
-  inside-none c t b k (in-deep d) h = inside-eats d c t b k h
-  inside-none c t b k (in_into d) h = never h
-  inside-none c t b k in_closing h = never h
+  inside_none c t b k (in_deep d) h = inside_eats d c t b k h
+  inside_none c t b k (in_into d) h = never h
+  inside_none c t b k in_closing h = never h
 
-  inside-end : {p : Phase} (b : Bool) (k : ℕ) → Inside p → act u p [] ≡ halts b k → k ≡ unclosed_comment
+  inside_end : {p : Phase} (b : Bool) (k : ℕ) → Inside p → act u p [] ≡ halts b k → k ≡ unclosed_comment
   unfolding act
-  inside-end b k (in-deep d) h = cc
-  inside-end b k (in_into d) h = cc
-  inside-end b k in_closing h = cc
+  inside_end b k (in_deep d) h = cc
+  inside_end b k (in_into d) h = cc
+  inside_end b k in_closing h = cc
 
   -- ---- so where two rests end a token alike, and make alike units, they may be swapped
   swap_by : {ok : ℕ → Type 0} {r s : List ℕ} → ((c : ℕ) → is_unit c (peek r) ≡ is_unit c (peek s)) → ((p : Phase) (b : Bool) (k : ℕ) → ok k → Inside p → act u p r ≡ halts b k → ⊥) →
@@ -112,12 +112,12 @@ module _ (u : Letters) where
         last = λ q p c b d k o h z.
             elim (near c r s (units c) q) [
               | alike e ↦ sym e ∙ h
-              | within d₁ i ↦ absurd (out p d k o (inside-goes d₁ c r p b (rw i at h)) z)
+              | within d₁ i ↦ absurd (out p d k o (inside_goes d₁ c r p b (rw i at h)) z)
             ];
         before = λ q c b k h.
             elim (near c r s (units c) q) [
               | alike e ↦ sym e ∙ h
-              | within d₁ i ↦ absurd (inside-eats d₁ c r b k (rw i at h))
+              | within d₁ i ↦ absurd (inside_eats d₁ c r b k (rw i at h))
             ];
       }
 
@@ -125,11 +125,11 @@ module _ (u : Letters) where
   pub swap_one : (x : ℕ) (r s : List ℕ) → ((y : ℕ) → is_unit x y ≡ false) → Always (act u) (x ∷ r) (x ∷ s)
   swap_one x r s begins =
       let e : is_unit x (peek r) ≡ is_unit x (peek s) = begins (peek r) ∙ sym (begins (peek s)) in
-      swap_by (λ c. refl) (λ p b k o i h. inside-none x r b k i h)
+      swap_by (λ c. refl) (λ p b k o i h. inside_none x r b k i h)
       (λ q b k o h.
       elim (near x r s e q) [
         | alike i ↦ sym i ∙ h
-        | within d i ↦ absurd (inside-eats d x r b k (rw i at h))
+        | within d i ↦ absurd (inside_eats d x r b k (rw i at h))
       ])
 
 -- ---- characters that end every token, but white space and perhaps a line
@@ -254,7 +254,7 @@ module _ (u : Letters) (usual : Usual u) (x y : ℕ) (blank : Blank u y) (r s : 
   unfolding act
   here behind_slash b k o h = rw (blank.slash, blank.star) (past (eqb x 0x2A) false (inside 1) (past (eqb x 0x2F) false (line of_comment) h))
   here (line j) b k o h = same_line j b k o h
-  here (inside d) b k o h = absurd (inside-none u x r b k (in-deep d) h)
+  here (inside d) b k o h = absurd (inside_none u x r b k (in_deep d) h)
   here (into d) b k o h = never h
   here closing b k o h = never h
   here closed b k o h = h
@@ -294,7 +294,7 @@ module _ (u : Letters) (usual : Usual u) (x y : ℕ) (blank : Blank u y) (r s : 
 
     -- A BLANK FOR WHATEVER ELSE ENDED THE TOKEN
     pub blank_swap : Swap (act u) (Stops y) (x ∷ r) (y ∷ s)
-    blank_swap = swap_by u unit_same (λ p b k o i h. inside-none u x r b k i h) here
+    blank_swap = swap_by u unit_same (λ p b k o i h. inside_none u x r b k i h) here
 
 -- ---- at the end of the text a newline changes no token but white space, an unclosed comment and an unclosed quoted text
 pub record Ended (k : ℕ) : Type 0 where
@@ -357,4 +357,4 @@ module _ (u : Letters) (usual : Usual u) (s : List ℕ) where
   -- A NEWLINE FOR THE END
   pub end_swap : Swap (act u) Ended [] (lf ∷ s)
   unfolding is_unit
-  end_swap = swap_by u (λ c. refl) (λ p b k o i h. o.no_comment (inside-end u b k i h)) ends_here
+  end_swap = swap_by u (λ c. refl) (λ p b k o i h. o.no_comment (inside_end u b k i h)) ends_here

@@ -48,17 +48,17 @@ eat_met p f (c ∷ t) =
     by_test (p c) (λ h. rw (eat_more p (met f) true c t h) ih) (λ h. rw (eat_stop p (met f) true c t h))
 
 -- the letters of `pragma` are small letters
-letter-small : (n : ℕ) → 0x61 ≤ letter n
-letter-small zero = omega arith
-letter-small (suc zero) = omega arith
-letter-small (suc (suc zero)) = omega arith
-letter-small (suc (suc (suc zero))) = omega arith
-letter-small (suc (suc (suc (suc zero)))) = omega arith
-letter-small (suc (suc (suc (suc (suc zero))))) = omega arith
-letter-small (suc (suc (suc (suc (suc (suc n)))))) = omega arith
+letter_small : (n : ℕ) → 0x61 ≤ letter n
+letter_small zero = omega arith
+letter_small (suc zero) = omega arith
+letter_small (suc (suc zero)) = omega arith
+letter_small (suc (suc (suc zero))) = omega arith
+letter_small (suc (suc (suc (suc zero)))) = omega arith
+letter_small (suc (suc (suc (suc (suc zero))))) = omega arith
+letter_small (suc (suc (suc (suc (suc (suc n)))))) = omega arith
 
 pub no_letter : (c n : ℕ) → c < 0x61 → eqb c (letter n) ≡ false
-no_letter c n h = ne_eqb c (letter n) (λ e. omega (arith, letter-small n))
+no_letter c n h = ne_eqb c (letter n) (λ e. omega (arith, letter_small n))
 
 -- a plain token, whose suffix would start at m
 abbrev tok : List ℕ → ℕ × List ℕ → Piece
@@ -177,15 +177,15 @@ module _ (u : Letters) where
   unfolding act
   closed_walk m l = walk_halts (act u) m l refl
 
-  inside-walk : (l : List ℕ) (d : ℕ) (m : List ℕ) → go (inside d) m l ≡ tok m (commented (block d l))
+  inside_walk : (l : List ℕ) (d : ℕ) (m : List ℕ) → go (inside d) m l ≡ tok m (commented (block d l))
   unfolding act block
-  inside-walk [] d m = walk_halts (act u) m [] refl
-  inside-walk (c ∷ []) d m =
+  inside_walk [] d m = walk_halts (act u) m [] refl
+  inside_walk (c ∷ []) d m =
       let a : act u (inside d) (c ∷ []) ≡ eats false (inside d) = rw (and_false (eqb c 0x2F), and_false (eqb c 0x2A)) in
       walk_eats (act u) m a ∙ walk_halts (act u) m [] refl
-  inside-walk (c ∷ x ∷ t) d m =
-      let past : (e : ℕ) → go (inside e) m t ≡ tok m (commented (block e t)) = λ e. inside-walk t e m in
-      let next = inside-walk (x ∷ t) d m in
+  inside_walk (c ∷ x ∷ t) d m =
+      let past : (e : ℕ) → go (inside e) m t ≡ tok m (commented (block e t)) = λ e. inside_walk t e m in
+      let next = inside_walk (x ∷ t) d m in
       by_test (opens c x)
       (λ h.
       let a : act u (inside d) (c ∷ x ∷ t) ≡ eats false (into (suc d)) = rw h in
@@ -213,7 +213,7 @@ module _ (u : Letters) where
       (λ h. by_test (eqb c 0x2A)
       (λ k.
       let a : act u behind_slash (c ∷ t) ≡ eats false (inside 1) = rw (h, k) in
-      rw (h, k) (walk_eats (act u) m a ∙ inside-walk t 1 m))
+      rw (h, k) (walk_eats (act u) m a ∙ inside_walk t 1 m))
       (λ k.
       let a : act u behind_slash (c ∷ t) ≡ halts false slash_mark = rw (h, k) in
       rw (h, k) (walk_halts (act u) m (c ∷ t) a)))

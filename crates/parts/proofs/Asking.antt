@@ -166,9 +166,9 @@ module _ (x : Lexer) (chunk carry : List ℕ) (start len : ℕ) {n which at many
   is_read : is_done ≡ true → number_of x (length chunk) (length carry) start len ≡ done
   is_read t = eqb-true (number_of x (length chunk) (length carry) start len) done t
 
-  in-carry : which ≡ 2 → Part carry at many is_text
+  in_carry : which ≡ 2 → Part carry at many is_text
   unfolding Q.text_of Q.number
-  in-carry h =
+  in_carry h =
       by_test is_done
       (λ t.
       by_test (leb x.last.place start)
@@ -179,9 +179,9 @@ module _ (x : Lexer) (chunk carry : List ℕ) (start len : ℕ) {n which at many
       record { fits = rw (a, m) (carry_fits (meaning x) (length chunk) (length carry) start len (is_read t) (leb-false x.last.place start u)); is = rw (t, u, a, m) }))
       (λ t. let w : which ≡ 0 = rw t at p.which_is in absurd (omega arith))
 
-  in-chunk : (which ≡ 2 → ⊥) → Part chunk at many is_text
+  in_chunk : (which ≡ 2 → ⊥) → Part chunk at many is_text
   unfolding Q.text_of Q.number
-  in-chunk h =
+  in_chunk h =
       by_test is_done
       (λ t.
       by_test (leb x.last.place start)
@@ -196,10 +196,10 @@ module _ (x : Lexer) (chunk carry : List ℕ) (start len : ℕ) {n which at many
       record { fits = omega arith; is = rw (t, m) })
 
   pub carry_part : which ≡ 2 → at + many ≤ length carry
-  carry_part h = (in-carry h).fits
+  carry_part h = (in_carry h).fits
 
   pub chunk_part : (which ≡ 2 → ⊥) → at + many ≤ length chunk
-  chunk_part h = (in-chunk h).fits
+  chunk_part h = (in_chunk h).fits
 
   pub part_most : (m : ℕ) → length chunk ≤ m → length carry ≤ m → at + many ≤ m
   part_most m f g =
@@ -210,7 +210,7 @@ module _ (x : Lexer) (chunk carry : List ℕ) (start len : ℕ) {n which at many
     width = omega arith
 
     pub texted_carry : which ≡ 2 → Texted x c k chunk carry start len (k.0, at + k.1) (take (until - at) (drop at carry))
-    texted_carry h = record { place_is = rw (← p.which_is, ← p.at_is, eq-eqb which 2 h); part_is = rw width (sym (in-carry h).is) }
+    texted_carry h = record { place_is = rw (← p.which_is, ← p.at_is, eq-eqb which 2 h); part_is = rw width (sym (in_carry h).is) }
 
     pub texted_chunk : (which ≡ 2 → ⊥) → Texted x c k chunk carry start len (c.0, at + c.1) (take (until - at) (drop at chunk))
-    texted_chunk h = record { place_is = rw (← p.which_is, ← p.at_is, ne_eqb which 2 h); part_is = rw width (sym (in-chunk h).is) }
+    texted_chunk h = record { place_is = rw (← p.which_is, ← p.at_is, ne_eqb which 2 h); part_is = rw width (sym (in_chunk h).is) }

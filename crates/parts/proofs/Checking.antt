@@ -149,9 +149,9 @@ pub record Open (last : Bool) (s : List ℕ) (clean : ℕ) : Type 0 where
   pub upto : clean ≡ valid_up_to s
 
 -- what is behind it has three bytes at most
-open-short : (last : Bool) {s : List ℕ} {clean : ℕ} → Open last s clean → length (beyond s) ≤ 3
-open-short true {s} o = omega (arith, eqb-true (length (beyond s)) 0 o.goes)
-open-short false {s} o = unfinished_short (beyond s) o.goes
+open_short : (last : Bool) {s : List ℕ} {clean : ℕ} → Open last s clean → length (beyond s) ≤ 3
+open_short true {s} o = omega (arith, eqb-true (length (beyond s)) 0 o.goes)
+open_short false {s} o = unfinished_short (beyond s) o.goes
 
 cond_same : (b c : Bool) → b ≡ c → (d : Bool) → cond d b c ≡ c
 cond_same b c e true = e
@@ -229,7 +229,7 @@ module _ (last : Bool) (fed : ℕ) (chunk : List ℕ) (from : ℕ) {clean : ℕ}
       record { free = k.0; goes = rw z (cond_same true true refl last); upto = k.1 }
 
   pub rest_short : Open last (drop from chunk) clean → length (part chunk (from + clean)) ≤ 3
-  rest_short o = rw (tail_is o.upto) (open-short last o)
+  rest_short o = rw (tail_is o.upto) (open_short last o)
 
   pub rest_good : {head : Bool} {x : ℕ} {q : Pend} → Open last (drop from chunk) clean → q ≡ packed_pend (part chunk (from + clean)) →
       RestScanned last fed chunk from head x (record { number = 0; also = 0; head = head; code = x; from = from; until = from + clean; pend = q })

@@ -155,14 +155,14 @@ module _ {s : List ℕ} {profile number also : ℕ} (row : List Token) (j : Judg
 
 -- ---- the tables as they are handed over
 module _ {starts mores emojis : List ℕ} (a : starts ≡ flat xid_start) (b : mores ≡ flat xid_continue) (c : emojis ≡ flat emoji) where
-  letters-are : lent starts mores emojis ≡ unicode
-  letters-are = rw (a, b, c) lent_is
+  letters_are : lent starts mores emojis ≡ unicode
+  letters_are = rw (a, b, c) lent_is
 
   pub roomy_letters : (profile m : ℕ) (s : List ℕ) → length (tokens_by unicode profile s) ≤ m → length (tokens_by (lent starts mores emojis) profile s) ≤ m
-  roomy_letters profile m s h = subst (λ (u : Letters). length (tokens_by u profile s) ≤ m) (sym letters-are) h
+  roomy_letters profile m s h = subst (λ (u : Letters). length (tokens_by u profile s) ≤ m) (sym letters_are) h
 
   pub filled_letters : {profile n : ℕ} {s : List ℕ} {row row' : List Token} → Filled (lent starts mores emojis) profile s row n row' → Filled unicode profile s row n row'
-  filled_letters {profile} {n} {s} {row} {row'} f = subst (λ (u : Letters). Filled u profile s row n row') letters-are f
+  filled_letters {profile} {n} {s} {row} {row'} f = subst (λ (u : Letters). Filled u profile s row n row') letters_are f
 
 -- ---- A TEXT WITH A DIRECTION MARK is refused with 7, in whatever room, and the row is left as it was
 pub rowed_marked : {s : List ℕ} {profile number also : ℕ} {row row' : List Token} → CutMarked s profile → Rowed s profile row number also row' → (number ≡ direction_mark) × (also ≡ unmarked_up_to s) × (row' ≡ row)

@@ -54,9 +54,9 @@ p_start : unicode.start 0x70 ≡ true
 unfolding unicode xid_start in_table
 p_start = refl
 
-letters-more : (unicode.more 0x72 ≡ true) × (unicode.more 0x61 ≡ true) × (unicode.more 0x67 ≡ true) × (unicode.more 0x6D ≡ true)
+letters_more : (unicode.more 0x72 ≡ true) × (unicode.more 0x61 ≡ true) × (unicode.more 0x67 ≡ true) × (unicode.more 0x6D ≡ true)
 unfolding unicode xid_continue in_table
-letters-more = (refl, refl, refl, refl)
+letters_more = (refl, refl, refl, refl)
 
 advance_p : (profile : ℕ) (t : List ℕ) → advance unicode profile 0x70 t ≡ record { kind = (word unicode.more unicode.emoji profile 0x70 t).0; from_suffix = 0x70 ∷ t; rest = (word unicode.more unicode.emoji profile 0x70 t).1 }
 unfolding advance
@@ -70,7 +70,7 @@ module _ (r : List ℕ) where
   name_letters : name unicode.more unicode.emoji letters ≡ name unicode.more unicode.emoji r
   unfolding name
   name_letters =
-      let m = letters-more in
+      let m = letters_more in
       let e : skip unicode.more letters ≡ skip unicode.more r =
       skip_more unicode.more 0x72 _ m.0
       ∙ skip_more unicode.more 0x61 _ m.1

@@ -12,15 +12,15 @@ use Rattle.characters.proofs.Walks.{passed_none, walk_on, walk_stop}
 use borrow.Author.Rules.{rules}
 use Rattle.characters.proofs.utf8.skip_chars.Goals as goal
 
-walk-ascii : (barred : Bool) {s : List ℕ} {from at at' : ℕ} → Passed (stops barred) s from at → at < length s → get_or s at 0 < 0x80 → at' ≡ at + 1 → Passed (stops barred) s from at'
-walk-ascii barred {s} {from} {at} p l h e =
+walk_ascii : (barred : Bool) {s : List ℕ} {from at at' : ℕ} → Passed (stops barred) s from at → at < length s → get_or s at 0 < 0x80 → at' ≡ at + 1 → Passed (stops barred) s from at'
+walk_ascii barred {s} {from} {at} p l h e =
     walk_on p (decoded_ascii s at {code = get_or s at 0} {wide = 1} l h refl refl) l (low_free barred (get_or s at 0) (omega arith)) e
 
 pub loop-at-init : goal.loop-at-init
 loop-at-init c = passed_none (search rules)
 
 pub loop-at-preserved-then-text-at-lt128 : goal.loop-at-preserved-then-text-at-lt128
-loop-at-preserved-then-text-at-lt128 c = walk-ascii _ c.loop-at.invariant (omega arith) (omega arith) refl
+loop-at-preserved-then-text-at-lt128 c = walk_ascii _ c.loop-at.invariant (omega arith) (omega arith) refl
 
 pub returns-then-is_stop : goal.returns-then-is_stop
 returns-then-is_stop c =
