@@ -78,7 +78,7 @@ module _ (u : Letters) (profile : ℕ) (s : List ℕ) where
       (λ t. filling_on row i f (ltb-true _ _ t))
       (λ t. absurd (omega (arith, h, f.count, ap length (none_left u profile s (place_after u profile s i) (ltb-false _ _ t)))))
 
-  -- ---- as the walk by hand asks them
+  -- ---- as `fill` asks them
   module _ (row : List Token) where
     pub row_length : (i : ℕ) → length (row_after u profile s row i) ≡ length row
     row_length zero = refl

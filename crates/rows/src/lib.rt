@@ -69,8 +69,7 @@ fn token_from<'a, 't>(
     }
 }
 
-// Stores the record of each token, and counts them. Proved by hand, as is each function that takes a slice of structs: so it only
-// stores what it is told.
+// Stores the record of each token, and counts them. It only stores what it is told.
 fn fill<'a, 'r, 't>(
     text: &'a [u8],
     profile: u32,
@@ -93,7 +92,7 @@ fn fill<'a, 'r, 't>(
     i
 }
 
-// The tables of the letters, by value: the walk by hand lends its own copies.
+// The tables of the letters, by value: `fill` is lent copies of its caller's own.
 fn xid_start() -> [u32; 1332]
     ensures { result ≡ flat xid_start }
 {
@@ -148,7 +147,7 @@ fn within(records: usize) -> usize
     if records < 64 { records } else { 64 }
 }
 
-// `tokenize_rows` on the first records of a row by value: from plain parameters to a row and back, so that its callers need no proof by hand.
+// `tokenize_rows` on the first records of a row by value: from plain parameters to a row and back.
 pub fn rows_of(text: &[u8], profile: u32, row: Row, records: usize) -> Rows
     ensures { Bridged text.now profile records row result.answer.number result.answer.also result.row }
 {
