@@ -10,6 +10,7 @@ a number that is no scalar value or a file that can't be read is refused with ex
 
 import re
 import sys
+import textwrap
 from pathlib import Path
 
 VERSION = "15.0.0"
@@ -20,10 +21,10 @@ SPECS = TOP / "crates/ucd/specs/Ucd.antt"
 
 # Property, file, name in the code, name in the specs.
 TABLES = [
-    ("XID_Start", "DerivedCoreProperties.txt", "XID_START", "xidStart"),
-    ("XID_Continue", "DerivedCoreProperties.txt", "XID_CONTINUE", "xidContinue"),
+    ("XID_Start", "DerivedCoreProperties.txt", "XID_START", "xid_start"),
+    ("XID_Continue", "DerivedCoreProperties.txt", "XID_CONTINUE", "xid_continue"),
     ("Emoji", "emoji-data.txt", "EMOJI", "emoji"),
-    ("White_Space", "PropList.txt", "WHITE_SPACE", "whiteSpace"),
+    ("White_Space", "PropList.txt", "WHITE_SPACE", "white_space"),
 ]
 
 CODE_HEAD = f"""\
@@ -34,8 +35,8 @@ SPECS_HEAD = f"""\
 -- The characters of each property, as ranges in rising order: written by tools/tables.py from
 -- DerivedCoreProperties.txt, PropList.txt and emoji-data.txt of the Unicode Character Database {VERSION}.
 -- Assumes nothing.
-use Rattle·unicode.specs.Ranges.{{Range, _to_}}
-use mathlib.Core.List.{{List, [], _∷_}}
+use Rattle.characters.specs.Ranges.{{Range, ◌to◌}}
+use Rattle.std.specs.Prelude.{{List, [], ◌∷◌}}
 
 """
 
@@ -108,9 +109,10 @@ def merge(ranges):
 
 
 def code_table(name, ranges):
-    """The table in the code: low and high end in turn."""
-    numbers = [f"    0x{end:04X},\n" for ends in ranges for end in ends]
-    return f"pub const {name}: [u32; {len(numbers)}] = [\n{''.join(numbers)}];\n"
+    """The table in the code: low and high end in turn, as many in a line as `rt fmt` puts there."""
+    numbers = [f"0x{end:04X}," for ends in ranges for end in ends]
+    lines = textwrap.wrap(" ".join(numbers), 95)
+    return f"pub const {name}: [u32; {len(numbers)}] = [\n{''.join(f'    {line}{chr(10)}' for line in lines)}];\n"
 
 
 def specs_table(name, ranges):
