@@ -43,7 +43,7 @@ fn answer_in(
     let given = call_in(task, text, asked, key);
     print_answer(rt, given)?;
     if shows(task, given) {
-        print_hex(rt, b" ", part(key, shown(task, asked, given)))?;
+        print_hex(rt, part(key, shown(task, asked, given)))?;
     }
     Ok(())
 }

@@ -2,14 +2,12 @@
 #![tactic(auto)]
 
 mod comparisons;
-mod histories;
 mod keys;
 mod lines;
 mod listings;
 mod numbers;
 mod output;
 mod records;
-mod spans;
 mod tasks;
 mod texts;
 mod words;

@@ -87,9 +87,9 @@ fn print_byte(rt: &impl Print, b: u8) -> io::Result<()> {
     print!(rt; "{b:02x}")
 }
 
-// A mark, and two digits for each byte; a hyphen for none.
-pub fn print_hex(rt: &impl Print, mark: &[u8], bytes: &[u8]) -> io::Result<()> {
-    print(rt, mark)?;
+// A space, and two digits for each byte; a hyphen for none.
+pub fn print_hex(rt: &impl Print, bytes: &[u8]) -> io::Result<()> {
+    print(rt, b" ")?;
     if bytes.len() == 0 {
         print(rt, b"-")?;
     }

@@ -29,7 +29,7 @@ const FIRST_STR: u32 = 56;
 
 const LAST_STR: u32 = 61;
 
-pub fn wide(word: u32) -> usize
+fn wide(word: u32) -> usize
     ensures { result ≤ 4294967295 }
 {
     word as usize

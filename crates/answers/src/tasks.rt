@@ -4,10 +4,10 @@
 //     tok PROFILE HEX, unescape MODE HEX, key PROFILE HEX
 //     tokroom PROFILE WORDS HEX, itemroom MODE WORDS HEX, keyroom PROFILE BYTES HEX, rowroom PROFILE RECORDS HEX
 //     body PROFILE INDEX MODE HEX, pair PROFILE HEX HEX
-//     oqlist ARGUMENTS HEX, compare PROFILE HEX HEX, parts PROFILE STEPS
+//     oqlist ARGUMENTS HEX, compare PROFILE HEX HEX
 use crate::output::{UNREADABLE, print, print_answer, refuse};
 use crate::words::{Asked, Text, part};
-use crate::{comparisons, histories, keys, listings, numbers, records, texts, words};
+use crate::{comparisons, keys, listings, numbers, records, texts, words};
 use std::io;
 use text::Answer;
 
@@ -46,12 +46,10 @@ const OQLIST: usize = 17;
 
 const COMPARE: usize = 18;
 
-const PARTS: usize = 19;
-
-const UNKNOWN: usize = 20;
+const UNKNOWN: usize = 19;
 
 // The task of a line that is too long.
-const TOO_LONG: usize = 21;
+const TOO_LONG: usize = 20;
 
 fn task_of(line: &[u8], long: bool) -> usize {
     if long {
@@ -59,7 +57,7 @@ fn task_of(line: &[u8], long: bool) -> usize {
     }
     words::find(
         words::first(line),
-        b"cp lowbyte mode fatal utf8 ident char byte tok unescape key tokroom itemroom keyroom rowroom body pair oqlist compare parts",
+        b"cp lowbyte mode fatal utf8 ident char byte tok unescape key tokroom itemroom keyroom rowroom body pair oqlist compare",
     )
 }
 
@@ -141,7 +139,6 @@ fn answer(rt: &impl Print, task: usize, arguments: &[u8]) -> io::Result<()> {
         PAIR => keys::pair(rt, arguments),
         OQLIST => listings::answer(rt, arguments),
         COMPARE => comparisons::answer(rt, arguments),
-        PARTS => histories::answer(rt, arguments),
         UNKNOWN => print(rt, b"unknown"),
         TOO_LONG => refuse(rt),
         _ => read(rt, task, arguments),

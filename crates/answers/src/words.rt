@@ -21,7 +21,7 @@ pub struct Bytes {
 }
 
 // The place of the first mark, or the end.
-pub fn end_at(words: &[u8], mark: u8) -> usize
+fn end_at(words: &[u8], mark: u8) -> usize
     ensures { result ≤ length words.now }
 {
     let mut i = 0;
@@ -44,17 +44,13 @@ pub fn first(words: &[u8]) -> &[u8] {
     before(words, b' ')
 }
 
-// What stands behind the first mark: nothing where there is none.
-pub fn after(words: &[u8], mark: u8) -> &[u8] {
-    let end = end_at(words, mark);
+// What stands behind the first space: nothing where there is none.
+pub fn rest(words: &[u8]) -> &[u8] {
+    let end = end_at(words, b' ');
     if end < words.len() {
         return &words[end + 1..];
     }
     &words[end..]
-}
-
-pub fn rest(words: &[u8]) -> &[u8] {
-    after(words, b' ')
 }
 
 // The first n bytes, or all where there are fewer.

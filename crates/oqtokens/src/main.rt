@@ -2,8 +2,8 @@
 // it takes: each as soon as it is handed out, and at the end how many there were, or the refusal. It keeps one chunk at a time, and nothing of a
 // token but its numbers, so that its memory does not grow.
 //
-// What keeps it from reading or writing goes to standard error. It has no exit status of its own: the launcher gives 0 for tokens, 1 for a
-// refusal and 2 for all else.
+// What keeps it from reading or writing goes to standard error. It ends with 0 whatever it says, and with 1 where memory or standard error
+// fails: the launcher gives 0 for tokens, 1 for a refusal and 2 for all else.
 #![tactic(auto)]
 
 ghost use Rattle.std.specs.Prelude.{◌≤◌, length, IfOk};
