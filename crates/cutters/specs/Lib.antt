@@ -1,9 +1,10 @@
-pub mod Kinds
-pub mod Digits
-pub mod Underscores
-pub mod Records
 pub mod Cutter
+pub mod Digits
+pub mod First
+pub mod Kinds
+pub mod Numbers
+pub mod Records
 pub mod Starts
 pub mod Steps
 pub mod Told
-pub mod First
+pub mod Underscores

@@ -1,6 +1,6 @@
 -- One outcome of an answer; the ways of `check_text` and of the marks behind it, as `search` takes them from what a need knows, and what a text that passes is.
 -- Assumes nothing.
-use mathlib.Core.Path.{◌≡◌, sym, ◌∙◌}
+use mathlib.Core.Path.{◌≡◌, refl, sym, ap, ◌∙◌}
 use mathlib.Core.Bool.{true}
 use mathlib.Core.List.{List}
 use Prim.Native.Nat.{ℕ, ◌≤◌, ◌<◌}
@@ -13,26 +13,29 @@ use Rattle.characters.specs.Utf8.{valid_up_to}
 use Rattle.characters.specs.Direction.{unmarked, clean_up_to}
 use Rattle.characters.proofs.Valid.{valid_within}
 use Rattle.characters.proofs.Direction.{clean_first, unmarked_all, marked_before}
+use Rattle.text.specs.declared.Refusal.{Refusal}
+use Rattle.text.specs.declared.Refusal.TheVariants.{UnknownSelector, TooLong, NotUtf8, RoomTooSmall, DirectionMark}
+use Rattle.text.specs.Refusals.{refused}
 use Rattle.text.specs.Answer.{Answered, done, too_long, not_utf8, room_too_small, direction_mark, longest, known_profile, check_text, check_marks, check_cut, ◌and_then◌, unknown_selector, Accepted, CutAccepted}
 
 -- one outcome: two answers of one call are equal
 pub answered_unique : {is : ℕ × ℕ} {n a m b : ℕ} → Answered is n a → Answered is m b → (n ≡ m) × (a ≡ b)
 answered_unique p q = (p.number_is ∙ sym q.number_is, p.also_is ∙ sym q.also_is)
 
-module _ (s : List ℕ) {number also : ℕ} where
-  pub text_long : longest < length s → number ≡ too_long → also ≡ 0 → Answered (check_text s) number also
+module _ (s : List ℕ) where
+  pub text_long : longest < length s → (too_long, 0) ≡ check_text s
   unfolding check_text
-  text_long h p q = rw (lt-ltb longest (length s) h) (record { number_is = p; also_is = q })
+  text_long h = rw (lt-ltb longest (length s) h) refl
 
-  pub text_bad : {good : ℕ} → good ≡ valid_up_to s → length s ≤ longest → good < length s → number ≡ not_utf8 → also ≡ good → Answered (check_text s) number also
+  pub text_bad : {good : ℕ} → good ≡ valid_up_to s → length s ≤ longest → good < length s → (not_utf8, good) ≡ check_text s
   unfolding check_text
-  text_bad e h k p q =
-      rw (le-ltb longest (length s) h, lt-ltb (valid_up_to s) (length s) (rw e at k)) (record { number_is = p; also_is = q ∙ e })
+  text_bad e h k =
+      rw (le-ltb longest (length s) h, lt-ltb (valid_up_to s) (length s) (rw e at k)) (ap (λ (n : ℕ). (not_utf8, n)) e)
 
-  pub text_fine : {good : ℕ} → good ≡ valid_up_to s → length s ≤ longest → length s ≤ good → number ≡ done → also ≡ 0 → Answered (check_text s) number also
+  pub text_fine : {good : ℕ} → good ≡ valid_up_to s → length s ≤ longest → length s ≤ good → (done, 0) ≡ check_text s
   unfolding check_text
-  text_fine e h k p q =
-      rw (le-ltb longest (length s) h, le-ltb (valid_up_to s) (length s) (rw e at k)) (record { number_is = p; also_is = q })
+  text_fine e h k =
+      rw (le-ltb longest (length s) h, le-ltb (valid_up_to s) (length s) (rw e at k)) refl
 
 pub ruleset ways = (text_long, text_bad, text_fine)
 
@@ -49,43 +52,51 @@ pub not_refused : (s : List ℕ) → Accepted s → check_text s ≡ (done, 0)
 unfolding check_text
 not_refused s a = rw (le-ltb longest (length s) a.short, le-ltb (valid_up_to s) (length s) (omega (arith, a.good)))
 
+-- no refusal is told with the number of what passes
+pub never_done : (r : Refusal) → (refused r).0 ≡ done → ⊥
+never_done UnknownSelector h = omega (arith, h)
+never_done TooLong h = omega (arith, h)
+never_done (NotUtf8 n) h = omega (arith, h)
+never_done (RoomTooSmall n) h = omega (arith, h)
+never_done (DirectionMark n) h = omega (arith, h)
+
 -- ---- and without marks: the first fault is found, and then which of the two kinds is given
-module _ (s : List ℕ) {number also : ℕ} where
-  pub marks_long : longest < length s → Answered (check_text s) number also → Answered (check_text s and_then check_marks s) number also
+module _ (s : List ℕ) where
+  pub marks_long : longest < length s → check_text s ≡ (check_text s and_then check_marks s)
   unfolding check_text
-  marks_long h a = rw (lt-ltb longest (length s) h) (rw (lt-ltb longest (length s) h) at a)
+  marks_long h = rw (lt-ltb longest (length s) h) refl
 
-  pub marks_refused : Answered (check_text s) number also → (number ≡ done → ⊥) → Answered (check_text s and_then check_marks s) number also
-  marks_refused a h = rw (ne_eqb (check_text s).0 done (λ e. h (a.number_is ∙ e))) a
+  pub marks_refused : (r : Refusal) → refused r ≡ check_text s → refused r ≡ (check_text s and_then check_marks s)
+  marks_refused r a = rw (sym a, ne_eqb (refused r).0 done (never_done r)) refl
 
-  pub marks_none : {clean : ℕ} → length s ≤ longest → clean ≡ clean_up_to s → length s ≤ clean → number ≡ done → also ≡ 0 → Answered (check_text s and_then check_marks s) number also
+  pub marks_none : {clean : ℕ} → length s ≤ longest → clean ≡ clean_up_to s → length s ≤ clean → (done, 0) ≡ (check_text s and_then check_marks s)
   unfolding check_marks
-  marks_none h e l p q =
+  marks_none h e l =
       let m = clean_first s in
       let t = not_refused s (record { short = h; good = omega (arith, m, valid_within s) }) in
       by_test (unmarked s)
-      (λ u. rw (t, u) (record { number_is = p; also_is = q }))
+      (λ u. rw (t, u) refl)
       (λ u. absurd (omega (arith, m, marked_before s u)))
 
-  pub marks_first : {clean n a : ℕ} → clean ≡ clean_up_to s → clean < length s → Answered (check_text s) n a → n ≡ done → number ≡ direction_mark → also ≡ clean → Answered (check_text s and_then check_marks s) number also
+  pub marks_first : {clean : ℕ} → clean ≡ clean_up_to s → clean < length s → (done, 0) ≡ check_text s → (direction_mark, clean) ≡ (check_text s and_then check_marks s)
   unfolding check_marks
-  marks_first e l a z p q =
+  marks_first e l t =
       let m = clean_first s in
-      let v = accepted s (sym a.number_is ∙ z) in
+      let v = accepted s (ap (λ (x : ℕ × ℕ). x.0) (sym t)) in
       let g : valid_up_to s ≡ length s = v.good in
       by_test (unmarked s)
       (λ u. absurd (omega (arith, m, unmarked_all s u)))
-      (λ u. rw (not_refused s v, u) (record { number_is = p; also_is = omega (arith, m, marked_before s u) }))
+      (λ u. rw (sym t, u) (ap (λ (n : ℕ). (direction_mark, n)) (omega (arith, m, marked_before s u))))
 
 pub ruleset marked = (marks_long, marks_refused, marks_none, marks_first)
 
 -- ---- with the profile first
-module _ (s : List ℕ) (p : ℕ) {number also : ℕ} where
-  pub cut_unknown : 2 ≤ p → number ≡ unknown_selector → also ≡ 0 → Answered (check_cut s p) number also
+module _ (s : List ℕ) (p : ℕ) where
+  pub cut_unknown : 2 ≤ p → (unknown_selector, 0) ≡ check_cut s p
   unfolding check_cut
-  cut_unknown h q r = rw (le-ltb p 2 h) (record { number_is = q; also_is = r })
+  cut_unknown h = rw (le-ltb p 2 h) refl
 
-  pub cut_known : p < 2 → Answered (check_text s and_then check_marks s) number also → Answered (check_cut s p) number also
+  pub cut_known : {x : ℕ × ℕ} → p < 2 → x ≡ (check_text s and_then check_marks s) → x ≡ check_cut s p
   unfolding check_cut
   cut_known h a = rw (lt-ltb p 2 h) a
 

@@ -1,12 +1,23 @@
-// What an entry that can refuse answers, and the checks that it begins with.
+// Why an entry refuses, the checks that it begins with, and the answer that C gets.
 #![tactic(auto)]
 
 ghost use Rattle.std.specs.Prelude.{◌≡◌};
 ghost use Rattle.text.specs.Answer.{Answered, default_profile, check_text, check_marks, check_cut, ◌and_then◌};
+ghost use Rattle.text.specs.Refusals.{given, checked};
 
 use characters::utf8::{clean_up_to, valid_up_to};
 
-// The number says how a call went, and `also` what comes with it.
+// Why a call is refused, with the place or the number that is told beside it.
+#[derive(Clone, Copy, Debug, PartialEq, Eq)]
+pub enum Refusal {
+    UnknownSelector,
+    TooLong,
+    NotUtf8(usize),
+    RoomTooSmall(usize),
+    DirectionMark(usize),
+}
+
+// What C gets of a call: the number says how it went, and `also` what comes with it.
 #[repr(C)]
 #[derive(Clone, Copy)]
 pub struct Answer {
@@ -34,6 +45,39 @@ pub const DEFAULT_PROFILE: u32 = 1;
 
 pub const PROFILES: u32 = 2;
 
+impl From<Result<usize, Refusal>> for Answer {
+    ghost use Rattle.text.specs.Answer.{Answered};
+    ghost use Rattle.text.specs.Refusals.{given};
+
+    ghost from_gives = { λ r a. Answered (given r) a.number a.also };
+
+    fn from(given: Result<usize, Refusal>) -> Answer {
+        let (number, also) = match given {
+            Ok(n) => (DONE, n),
+            Err(Refusal::UnknownSelector) => (UNKNOWN_SELECTOR, 0),
+            Err(Refusal::TooLong) => (TOO_LONG, 0),
+            Err(Refusal::NotUtf8(good)) => (NOT_UTF8, good),
+            Err(Refusal::RoomTooSmall(need)) => (ROOM_TOO_SMALL, need),
+            Err(Refusal::DirectionMark(at)) => (DIRECTION_MARK, at),
+        };
+        Answer {
+            number,
+            also: also as u64,
+        }
+    }
+}
+
+impl From<Result<(), Refusal>> for Answer {
+    ghost use Rattle.text.specs.Answer.{Answered};
+    ghost use Rattle.text.specs.Refusals.{checked};
+
+    ghost from_gives = { λ r a. Answered (checked r) a.number a.also };
+
+    fn from(checked: Result<(), Refusal>) -> Answer {
+        Answer::from(checked.map(|()| 0usize))
+    }
+}
+
 // That profile, by a promise.
 pub fn default_profile() -> u32
     ensures { result ≡ default_profile }
@@ -41,63 +85,42 @@ pub fn default_profile() -> u32
     DEFAULT_PROFILE
 }
 
-// Refusal 2 for a text that is too long, then 3 for one that is not UTF-8, else 0; it writes nothing.
-pub fn check_text(text: &[u8]) -> Answer
-    ensures { Answered (check_text text.now) result.number result.also }
+// Refuses a text that is too long, then one that is not UTF-8; it writes nothing.
+pub fn check_text(text: &[u8]) -> Result<(), Refusal>
+    ensures { checked result ≡ check_text text.now }
 {
     if LONGEST < text.len() {
-        return Answer {
-            number: TOO_LONG,
-            also: 0,
-        };
+        return Err(Refusal::TooLong);
     }
     let good = valid_up_to(text);
     if good < text.len() {
-        return Answer {
-            number: NOT_UTF8,
-            also: good as u64,
-        };
+        return Err(Refusal::NotUtf8(good));
     }
-    Answer {
-        number: DONE,
-        also: 0,
-    }
+    Ok(())
 }
 
-// What check_text refuses, then 7 for a text that holds a direction mark, else 0. One walk finds the first fault of either kind, and only where there is
+// What check_text refuses, then a text that holds a direction mark. One walk finds the first fault of either kind, and only where there is
 // one is it asked which of them is given: bytes that are not UTF-8 go first wherever they stand.
-fn check_clean(text: &[u8]) -> Answer
-    ensures { Answered (check_text text.now and_then check_marks text.now) result.number result.also }
+fn check_clean(text: &[u8]) -> Result<(), Refusal>
+    ensures { checked result ≡ (check_text text.now and_then check_marks text.now) }
 {
     if LONGEST < text.len() {
         return check_text(text);
     }
     let clean = clean_up_to(text);
     if text.len() <= clean {
-        return Answer {
-            number: DONE,
-            also: 0,
-        };
+        return Ok(());
     }
-    let checked = check_text(text);
-    if checked.number != DONE {
-        return checked;
-    }
-    Answer {
-        number: DIRECTION_MARK,
-        also: clean as u64,
-    }
+    check_text(text)?;
+    Err(Refusal::DirectionMark(clean))
 }
 
-// Refusal 1 for an unknown profile, then what check_clean refuses: for the entries that list tokens or make keys.
-pub fn check_cut(text: &[u8], profile: u32) -> Answer
-    ensures { Answered (check_cut text.now profile) result.number result.also }
+// Refuses an unknown profile, then what check_clean refuses: for the entries that list tokens or make keys.
+pub fn check_cut(text: &[u8], profile: u32) -> Result<(), Refusal>
+    ensures { checked result ≡ check_cut text.now profile }
 {
     if PROFILES <= profile {
-        return Answer {
-            number: UNKNOWN_SELECTOR,
-            also: 0,
-        };
+        return Err(Refusal::UnknownSelector);
     }
     check_clean(text)
 }

@@ -1,5 +1,5 @@
 use borrow.Author.Rules.{rules}
-use Rattle.text.proofs.Checks.{marked}
+use Rattle.text.proofs.Checks.{marked, marks_long, marks_refused}
 use Rattle.text.proofs.check_clean.Goals as goal
 
 pub returns-then-text-gt-LONGEST : goal.returns-then-text-gt-LONGEST
@@ -7,9 +7,6 @@ returns-then-text-gt-LONGEST c = search (rules, marked)
 
 pub returns-then-text-clean : goal.returns-then-text-clean
 returns-then-text-clean c = search (rules, marked)
-
-pub returns-then-checked-ne-DONE : goal.returns-then-checked-ne-DONE
-returns-then-checked-ne-DONE c = search (rules, marked)
 
 pub returns : goal.returns
 returns c = search (rules, marked)

@@ -1,5 +1,5 @@
-use Rattle.text.proofs.Checks.{cut_unknown, cut_known}
 use borrow.Author.Rules.{rules}
+use Rattle.text.proofs.Checks.{cut_unknown, cut_known}
 use Rattle.text.proofs.check_cut.Goals as goal
 
 pub returns-then-profile-ge-PROFILES : goal.returns-then-profile-ge-PROFILES
