@@ -78,6 +78,18 @@ impl From<Result<(), Refusal>> for Answer {
     }
 }
 
+// 1 for yes, 0 for no.
+impl From<Result<bool, Refusal>> for Answer {
+    ghost use Rattle.text.specs.Answer.{Answered};
+    ghost use Rattle.text.specs.Refusals.{told};
+
+    ghost from_gives = { λ r a. Answered (told r) a.number a.also };
+
+    fn from(told: Result<bool, Refusal>) -> Answer {
+        Answer::from(told.map(usize::from))
+    }
+}
+
 // That profile, by a promise.
 pub fn default_profile() -> u32
     ensures { result ≡ default_profile }
