@@ -1,18 +1,18 @@
 // The second entry of the tokenizer: the tokens of a text in a lent row of records, one struct each.
 #![tactic(auto)]
 
-ghost use Rattle.std.specs.Prelude.{◌≡◌, ◌≤◌, ◌<◌, min, length};
-ghost use Rattle.characters.specs.Ranges.{flat};
-ghost use Rattle.ucd.specs.Ucd.{xid_start, xid_continue, emoji};
-ghost use Rattle.text.specs.Answer.{Answered, done, longest};
-ghost use Rattle.lexer.specs.Unicode.{lent};
+ghost use Rattle.std.specs.Prelude.{◌≡◌, ◌≤◌, ◌<◌, length};
+ghost use Rattle.text.specs.Answer.{done, longest, check_cut, ◌and_then◌};
+ghost use Rattle.text.specs.Refusals.{given, checked};
+ghost use Rattle.lexer.specs.Unicode.{letters_in};
 ghost use Rattle.rows.specs.Rows.{Rowed, Bridged};
 ghost use Rattle.rows.specs.Steps.{Judged, record_at, Filled};
-ghost use Rattle.lexer.specs.Promises.{tokens_by};
+ghost use Rattle.lexer.specs.Promises.{tokens_of, tokens_by};
 
-use listing::{token_at, tokenize};
-use text::{Answer, check_cut};
-use ucd::tables;
+use cutters::RECORD;
+use lexer::Letters;
+use listing::{cut_run, tokenize};
+use text::{Refusal, check_cut};
 
 // A token as `tokenize` lists it in words.
 #[repr(C)]
@@ -25,137 +25,101 @@ pub struct Token {
     pub misplaced: u32,
 }
 
+impl From<[u32; RECORD]> for Token {
+    ghost use Rattle.rows.specs.Rows.{fields};
+
+    ghost from_gives = { λ words t. fields t ≡ words };
+
+    fn from([kind, len, suffix, start, misplaced]: [u32; RECORD]) -> Token {
+        Token {
+            kind,
+            len,
+            suffix,
+            start,
+            misplaced,
+        }
+    }
+}
+
+// How many records a text needs that passes the checks, as `tokenize` says it with room for none.
+fn needed(text: &[u8], profile: u32) -> Result<usize, Refusal>
+    ensures { given result ≡ (check_cut text.now profile and_then (done, length (tokens_of profile text.now))) }
+{
+    match tokenize(text, profile, &mut []) {
+        Ok(n) => Ok(n),
+        Err(refusal) => match refusal {
+            Refusal::RoomTooSmall(need) => Ok(need),
+            _ => Err(refusal),
+        },
+    }
+}
+
 // The checks, for a row of so many records. A row of as many records as the text has bytes cannot be short, and nothing is
-// counted for it; else `tokenize`, with room for no record, says how many are needed.
-fn judged(text: &[u8], profile: u32, room: usize) -> Answer
-    ensures { Judged text.now profile room result.number result.also }
+// counted for it.
+fn judged(text: &[u8], profile: u32, room: usize) -> Result<(), Refusal>
+    ensures { Judged text.now profile room (checked result).0 (checked result).1 }
 {
     if text.len() <= room {
         return check_cut(text, profile);
     }
-    let mut none = [0u32; 1];
-    let told = tokenize(text, profile, &mut none);
-    if told.number != text::ROOM_TOO_SMALL {
-        return told;
+    let need = needed(text, profile)?;
+    if room < need {
+        return Err(Refusal::RoomTooSmall(need));
     }
-    if (room as u64) < told.also {
-        return told;
-    }
-    Answer {
-        number: text::DONE,
-        also: told.also,
-    }
+    Ok(())
 }
 
 // The record of the token at a place of the text.
-fn token_from<'a, 't>(
-    text: &'a [u8],
-    at: usize,
-    profile: u32,
-    start: &'t [u32],
-    more: &'t [u32],
-    emoji: &'t [u32],
-) -> Token
+fn token_from(text: &[u8], at: usize, profile: u32, letters: Letters<'_>) -> Token
     requires { (length text.now ≤ longest) × (at < length text.now) }
-    ensures { result ≡ record_at (lent start.now more.now emoji.now) profile text.now at }
+    ensures { result ≡ record_at (letters_in letters.entry) profile text.now at }
 {
-    let t = token_at(text, at, profile, start, more, emoji);
-    Token {
-        kind: t.kind,
-        len: (t.end - at) as u32,
-        suffix: (t.suffix - at) as u32,
-        start: at as u32,
-        misplaced: t.misplaced as u32,
-    }
+    let mut words = [0; RECORD];
+    cut_run(text, at, profile, &mut words, letters);
+    Token::from(words)
 }
 
-// Stores the record of each token, and counts them. It only stores what it is told.
-fn fill<'a, 'r, 't>(
-    text: &'a [u8],
-    profile: u32,
-    row: &'r mut [Token],
-    start: &'t [u32],
-    more: &'t [u32],
-    emoji: &'t [u32],
-) -> usize
-    requires { (length text.now ≤ longest) × (length (tokens_by (lent start.now more.now emoji.now) profile text.now) ≤ length row.old) }
-    ensures { Filled (lent start.now more.now emoji.now) profile text.now row.old result row.new }
+// Stores the record of each token, and counts them. It counts by hand: what is written through `iter_mut` is not known of the row afterwards.
+fn fill(text: &[u8], profile: u32, row: &mut [Token], letters: Letters<'_>) -> usize
+    requires { (length text.now ≤ longest) × (length (tokens_by (letters_in letters) profile text.now) ≤ length row.old) }
+    ensures { Filled (letters_in letters.entry) profile text.now row.old result row.new }
 {
-    let mut i: usize = 0;
+    let mut n: usize = 0;
     let mut at: usize = 0;
     while at < text.len() {
-        let t = token_from(text, at, profile, start, more, emoji);
-        row[i] = t;
+        let t = token_from(text, at, profile, letters);
+        row[n] = t;
         at += t.len as usize;
-        i += 1;
+        n += 1;
     }
-    i
-}
-
-// The tables of the letters, by value: `fill` is lent copies of its caller's own.
-fn xid_start() -> [u32; 1332]
-    ensures { result ≡ flat xid_start }
-{
-    tables::XID_START
-}
-
-fn xid_continue() -> [u32; 1550]
-    ensures { result ≡ flat xid_continue }
-{
-    tables::XID_CONTINUE
-}
-
-fn emoji() -> [u32; 302]
-    ensures { result ≡ flat emoji }
-{
-    tables::EMOJI
-}
-
-fn done_with(n: usize) -> Answer
-    ensures { Answered (done, n) result.number result.also }
-{
-    Answer {
-        number: text::DONE,
-        also: n as u64,
-    }
+    n
 }
 
 // The tokens of a text, in a lent row of records.
-pub fn tokenize_rows(text: &[u8], profile: u32, row: &mut [Token]) -> Answer
-    ensures { Rowed text.now profile row.old result.number result.also row.new }
+pub fn tokenize_rows(text: &[u8], profile: u32, row: &mut [Token]) -> Result<usize, Refusal>
+    ensures { Rowed text.now profile row.old (given result).0 (given result).1 row.new }
 {
-    let mut a = judged(text, profile, row.len());
-    if a.number == text::DONE {
-        a = done_with(fill(text, profile, row, &xid_start(), &xid_continue(), &emoji()));
-    }
-    a
+    judged(text, profile, row.len())?;
+    Ok(fill(text, profile, row, Letters::unicode()))
 }
 
 // A row by value, for a caller that holds no lent slice of structs.
-pub type Row = [Token; 64];
+pub const ROW: usize = 64;
+
+pub type Row = [Token; ROW];
 
 #[derive(Clone, Copy)]
 pub struct Rows {
-    pub answer: Answer,
+    pub answer: Result<usize, Refusal>,
     pub row: Row,
 }
 
-// How many records of such a row are lent: all, where more are asked.
-fn within(records: usize) -> usize
-    ensures { result ≡ min 64 records }
-{
-    if records < 64 { records } else { 64 }
-}
-
-// `tokenize_rows` on the first records of a row by value: from plain parameters to a row and back.
+// `tokenize_rows` on the first records of a row by value, on all where more are asked for: from plain parameters to a row and back.
 pub fn rows_of(text: &[u8], profile: u32, row: Row, records: usize) -> Rows
-    ensures { Bridged text.now profile records row result.answer.number result.answer.also result.row }
+    ensures { Bridged text.now profile records row (given result.answer).0 (given result.answer).1 result.row }
 {
-    let n = within(records);
-    let mut rows = row;
-    let a = tokenize_rows(text, profile, &mut rows[..n]);
-    Rows {
-        answer: a,
-        row: rows,
-    }
+    let n = records.min(ROW);
+    let mut row = row;
+    let answer = tokenize_rows(text, profile, &mut row[..n]);
+    Rows { answer, row }
 }

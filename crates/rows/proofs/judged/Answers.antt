@@ -1,15 +1,18 @@
-use borrow.Author.Rules.{rules}
-use Rattle.rows.proofs.Whole.{judged_roomy, judged_told, judged_short, judged_done}
+use native.Mathlib.Omega.{arith}
+use Rattle.std.proofs.lemmas.Result.{err_from_is_err_and}
+use Rattle.rows.proofs.Whole.{judged_roomy, judged_refused, judged_short, judged_done}
 use Rattle.rows.proofs.judged.Goals as goal
 
 pub returns-then-text-room : goal.returns-then-text-room
-returns-then-text-room c = search (rules, judged_roomy)
+returns-then-text-room c = judged_roomy _ c.if-text-room.true c.check_cut.ensures
 
-pub returns-then-told-ne-ROOM_TOO_SMALL : goal.returns-then-told-ne-ROOM_TOO_SMALL
-returns-then-told-ne-ROOM_TOO_SMALL c = search (rules, judged_told)
+pub returns-in_err-need : goal.returns-in_err-need
+returns-in_err-need c =
+    let p = err_from_is_err_and c.from_residual.result c.from_residual.ensures.1 in
+    rw (p.1, p.2) (judged_refused _ c.in_err-need.ensures)
 
-pub returns-then-room-told : goal.returns-then-room-told
-returns-then-room-told c = search (rules, judged_short)
+pub returns-then-room-need : goal.returns-then-room-need
+returns-then-room-need c = judged_short _ _ _ c.in_ok-need.ensures (omega arith)
 
 pub returns : goal.returns
-returns c = search (rules, judged_done)
+returns c = judged_done _ _ _ c.in_ok-need.ensures (omega arith)

@@ -1,16 +1,14 @@
-use Rattle.rows.proofs.Whole.{rowed_refused, judged_passed, rowed_done, roomy_letters, filled_letters}
+use Rattle.std.proofs.lemmas.Result.{err_from_is_err_and}
+use Rattle.rows.proofs.Whole.{rowed_refused, judged_passed, rowed_done}
 use Rattle.rows.proofs.tokenize_rows.Goals as goal
 
+pub returns-in_err-judged : goal.returns-in_err-judged
+returns-in_err-judged c =
+    let p = err_from_is_err_and c.from_residual.result c.from_residual.ensures.1 in
+    rw (p.1, p.2) (rowed_refused _ c.in_err-judged.ensures)
+
 pub fill-requires : goal.fill-requires
-fill-requires c =
-    let p = judged_passed c.args.row.now c.judged-a.ensures c.if-a-eq-DONE.true in
-    (p.0, roomy_letters c.xid_start.ensures c.xid_continue.ensures c.emoji.ensures _ _ _ p.1)
+fill-requires c = judged_passed _ _ _ c.in_ok-judged.ensures c.unicode.ensures
 
-pub returns-then-a-eq-DONE : goal.returns-then-a-eq-DONE
-returns-then-a-eq-DONE c =
-    rowed_done c.args.row.now c.judged-a.ensures c.if-a-eq-DONE.true
-    (filled_letters c.xid_start.ensures c.xid_continue.ensures c.emoji.ensures c.fill.ensures)
-    c.done_with-a.ensures
-
-pub returns-else-a-eq-DONE : goal.returns-else-a-eq-DONE
-returns-else-a-eq-DONE c = rowed_refused c.judged-a.ensures c.if-a-eq-DONE.false
+pub returns : goal.returns
+returns c = rowed_done _ _ _ c.in_ok-judged.ensures c.unicode.ensures c.fill.ensures
