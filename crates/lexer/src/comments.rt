@@ -2,14 +2,15 @@
 ghost use Rattle.std.specs.Prelude.{◌≡◌, ◌+◌, ◌≤◌, ◌<◌, length, get_or};
 ghost use Rattle.lexer.specs.Cut.{opens, closes, block, slash};
 ghost use Rattle.lexer.specs.Steps.{Parted};
+ghost use Rattle.cutters.specs.Numbers.{kind_number};
 
 use crate::cursor::{Cursor, byte};
-use crate::kinds;
+use cutters::{Kind};
 
 // A kind, and the cursor behind the token.
 #[derive(Clone, Copy)]
 pub struct Part {
-    pub kind: u32,
+    pub kind: Kind,
     pub cursor: Cursor,
 }
 
@@ -77,13 +78,13 @@ fn block_comment(text: &[u8], from: Cursor) -> Block
 // Behind a slash: a line comment, a block comment, or the slash alone.
 pub fn slash(text: &[u8], from: Cursor) -> Part
     requires { from.at ≤ length text.now }
-    ensures { Parted slash text.now from.at result.kind result.cursor.at }
+    ensures { Parted slash text.now from.at (kind_number result.kind) result.cursor.at }
 {
     let x = from.first(text);
     if x == 0x2F {
         let cursor = from.bump(text).eat_line(text);
         return Part {
-            kind: kinds::LINE_COMMENT,
+            kind: Kind::LineComment,
             cursor,
         };
     }
@@ -92,17 +93,17 @@ pub fn slash(text: &[u8], from: Cursor) -> Part
         let cursor = b.cursor;
         if b.closed {
             return Part {
-                kind: kinds::BLOCK_COMMENT,
+                kind: Kind::BlockComment { terminated: true },
                 cursor,
             };
         }
         return Part {
-            kind: kinds::UNCLOSED_COMMENT,
+            kind: Kind::BlockComment { terminated: false },
             cursor,
         };
     }
     Part {
-        kind: kinds::SLASH,
+        kind: Kind::Slash,
         cursor: from,
     }
 }

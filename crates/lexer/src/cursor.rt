@@ -9,12 +9,12 @@ ghost use Rattle.cutters.specs.Digits.{peek, is_digit, is_hex_digit, digit_by};
 ghost use Rattle.cutters.specs.Underscores.{before, misplaced};
 ghost use Rattle.cutters.specs.Steps.{first_of};
 ghost use Rattle.lexer.specs.Cut.{not_lf, wide_emoji, goes_on};
-ghost use Rattle.lexer.specs.Unicode.{start_in, more_in, emoji_in};
+ghost use Rattle.lexer.specs.Unicode.{more_in, emoji_in, lent};
 ghost use Rattle.lexer.specs.Steps.{Ran, Run};
 
+use crate::lent::Letters;
 use characters::utf8::{code, decode};
 use letters::is_whitespace;
-use ucd::{is_emoji_in, is_xid_continue_in, is_xid_start_in};
 
 #[derive(Clone, Copy)]
 pub struct Cursor {
@@ -39,15 +39,6 @@ pub fn byte(text: &[u8], at: usize) -> u32
         return b as u32;
     }
     0
-}
-
-pub fn is_id_start_in(start: &[u32], c: u32) -> bool
-    ensures { result ≡ start_in start.now c }
-{
-    if c == 0x5F {
-        return true;
-    }
-    is_xid_start_in(start, c)
 }
 
 pub fn not_lf(c: u32) -> bool
@@ -81,27 +72,6 @@ pub fn is_hex_digit(c: u32) -> bool
         return true;
     }
     is_between(0x61, 0x66, c)
-}
-
-pub fn is_wide_emoji(emoji: &[u32], c: u32) -> bool
-    ensures { result ≡ wide_emoji (emoji_in emoji.now) c }
-{
-    if c < 0x80 {
-        return false;
-    }
-    is_emoji_in(emoji, c)
-}
-
-pub fn goes_on(more: &[u32], emoji: &[u32], c: u32) -> bool
-    ensures { result ≡ goes_on (more_in more.now) (emoji_in emoji.now) c }
-{
-    if is_xid_continue_in(more, c) {
-        return true;
-    }
-    if is_wide_emoji(emoji, c) {
-        return true;
-    }
-    c == 0x200D
 }
 
 impl Cursor {
@@ -160,21 +130,21 @@ impl Cursor {
         Cursor { at }
     }
 
-    pub fn eat_id_continue(self, text: &[u8], more: &[u32]) -> Cursor
+    pub fn eat_id_continue(self, text: &[u8], letters: Letters<'_>) -> Cursor
         requires { self.at ≤ length text.now }
-        ensures { Place text.now self.at result.at (skip (more_in more.now) (left text.now self.at)) }
+        ensures { Place text.now self.at result.at (skip (more_in letters.entry.more.now) (left text.now self.at)) }
     {
         let mut at = self.at;
         while at < text.len() {
             let b = byte(text, at);
             if b < 0x80 {
-                if !is_xid_continue_in(more, b) {
+                if !letters.is_id_continue(b) {
                     return Cursor { at };
                 }
                 at = at + 1;
             } else {
                 let d = decode(text, at);
-                if !is_xid_continue_in(more, d.code) {
+                if !letters.is_id_continue(d.code) {
                     return Cursor { at };
                 }
                 at = at + d.wide;
@@ -184,9 +154,9 @@ impl Cursor {
     }
 
     // What an identifier goes on with, as long as it is ASCII.
-    pub fn eat_ascii_continue(self, text: &[u8], more: &[u32]) -> Cursor
+    pub fn eat_ascii_continue(self, text: &[u8], letters: Letters<'_>) -> Cursor
         requires { self.at ≤ length text.now }
-        ensures { Ran (more_in more.now) text.now self.at result.at }
+        ensures { Ran (more_in letters.entry.more.now) text.now self.at result.at }
     {
         let mut at = self.at;
         while at < text.len() {
@@ -194,7 +164,7 @@ impl Cursor {
             if 0x80 <= b {
                 return Cursor { at };
             }
-            if !is_xid_continue_in(more, b) {
+            if !letters.is_id_continue(b) {
                 return Cursor { at };
             }
             at = at + 1;
@@ -203,14 +173,14 @@ impl Cursor {
     }
 
     // The rest of an identifier that holds an emoji.
-    pub fn eat_fake(self, text: &[u8], more: &[u32], emoji: &[u32]) -> Cursor
+    pub fn eat_fake(self, text: &[u8], letters: Letters<'_>) -> Cursor
         requires { self.at ≤ length text.now }
-        ensures { Place text.now self.at result.at (skip (goes_on (more_in more.now) (emoji_in emoji.now)) (left text.now self.at)) }
+        ensures { Place text.now self.at result.at (skip (goes_on (more_in letters.entry.more.now) (emoji_in letters.entry.emoji.now)) (left text.now self.at)) }
     {
         let mut at = self.at;
         while at < text.len() {
             let d = decode(text, at);
-            if !goes_on(more, emoji, d.code) {
+            if !letters.goes_on(d.code) {
                 return Cursor { at };
             }
             at = at + d.wide;

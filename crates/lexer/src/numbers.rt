@@ -5,16 +5,18 @@ ghost use Rattle.characters.specs.Steps.{Place};
 ghost use Rattle.characters.specs.Text.{left};
 ghost use Rattle.cutters.specs.Digits.{peek};
 ghost use Rattle.lexer.specs.Cut.{is_e, exponent, exponent_of, point, fraction, based, number, is_unit, identifier};
-ghost use Rattle.lexer.specs.Unicode.{start_in, more_in};
+ghost use Rattle.lexer.specs.Unicode.{start_in, more_in, lent};
 ghost use Rattle.lexer.specs.Steps.{Read, Numbered};
+ghost use Rattle.cutters.specs.Numbers.{base_number, kind_number};
 
-use crate::cursor::{Cursor, Digits, first_of, is_digit, is_id_start_in};
-use crate::kinds;
+use crate::lent::Letters;
+use crate::cursor::{Cursor, Digits, first_of, is_digit};
+use cutters::{Base, Kind};
 
 // What holds digits: its kind, the place of its first misplaced underscore, 0 for none, and the cursor behind it.
 #[derive(Clone, Copy)]
 pub struct Figures {
-    pub kind: u32,
+    pub kind: Kind,
     pub misplaced: usize,
     pub cursor: Cursor,
 }
@@ -48,35 +50,35 @@ fn eat_float_exponent(text: &[u8], from: Cursor) -> Digits
 }
 
 // A Float, behind its e. The place `found` is that of the first misplaced underscore before, as it is below.
-fn exponent_of(text: &[u8], from: Cursor, base: u32, found: usize) -> Figures
-    requires { (from.at ≤ length text.now) × (base ≤ 3) }
-    ensures { Read (exponent_of base) text.now from.at found result.kind result.misplaced result.cursor.at }
+fn exponent_of(text: &[u8], from: Cursor, base: Base, found: usize) -> Figures
+    requires { from.at ≤ length text.now }
+    ensures { Read (exponent_of (base_number base)) text.now from.at found (kind_number result.kind) result.misplaced result.cursor.at }
 {
     let e = eat_float_exponent(text, from);
     let cursor = e.cursor;
     let misplaced = first_of(found, e.misplaced);
     if e.any {
         return Figures {
-            kind: kinds::FLOAT + 2 * base,
+            kind: Kind::Float { base, empty_exponent: false },
             misplaced,
             cursor,
         };
     }
     Figures {
-        kind: kinds::FLOAT_EMPTY_EXPONENT + 2 * base,
+        kind: Kind::Float { base, empty_exponent: true },
         misplaced,
         cursor,
     }
 }
 
 // A Float, behind its point.
-fn point(text: &[u8], from: Cursor, base: u32, found: usize) -> Figures
-    requires { (from.at ≤ length text.now) × (base ≤ 3) }
-    ensures { Read (point base) text.now from.at found result.kind result.misplaced result.cursor.at }
+fn point(text: &[u8], from: Cursor, base: Base, found: usize) -> Figures
+    requires { from.at ≤ length text.now }
+    ensures { Read (point (base_number base)) text.now from.at found (kind_number result.kind) result.misplaced result.cursor.at }
 {
     if !is_digit(from.first(text)) {
         return Figures {
-            kind: kinds::FLOAT + 2 * base,
+            kind: Kind::Float { base, empty_exponent: false },
             misplaced: found,
             cursor: from,
         };
@@ -88,16 +90,16 @@ fn point(text: &[u8], from: Cursor, base: u32, found: usize) -> Figures
         return exponent_of(text, cursor.bump(text), base, misplaced);
     }
     Figures {
-        kind: kinds::FLOAT + 2 * base,
+        kind: Kind::Float { base, empty_exponent: false },
         misplaced,
         cursor,
     }
 }
 
 // Behind the digits of a base: a point, an exponent, or nothing.
-fn fraction(text: &[u8], from: Cursor, base: u32, found: usize) -> Figures
-    requires { (from.at ≤ length text.now) × (base ≤ 3) }
-    ensures { Read (fraction base) text.now from.at found result.kind result.misplaced result.cursor.at }
+fn fraction(text: &[u8], from: Cursor, base: Base, found: usize) -> Figures
+    requires { from.at ≤ length text.now }
+    ensures { Read (fraction (base_number base)) text.now from.at found (kind_number result.kind) result.misplaced result.cursor.at }
 {
     let x = from.first(text);
     if x == 0x2E {
@@ -107,23 +109,23 @@ fn fraction(text: &[u8], from: Cursor, base: u32, found: usize) -> Figures
         return exponent_of(text, from.bump(text), base, found);
     }
     Figures {
-        kind: kinds::INT + 2 * base,
+        kind: Kind::Int { base, empty_int: false },
         misplaced: found,
         cursor: from,
     }
 }
 
 // Behind 0b, 0o or 0x and what digits there are.
-fn based(text: &[u8], d: Digits, base: u32) -> Figures
-    requires { (d.cursor.at ≤ length text.now) × (base ≤ 3) }
-    ensures { Read (based base d.any) text.now d.cursor.at d.misplaced result.kind result.misplaced result.cursor.at }
+fn based(text: &[u8], d: Digits, base: Base) -> Figures
+    requires { d.cursor.at ≤ length text.now }
+    ensures { Read (based (base_number base) d.any) text.now d.cursor.at d.misplaced (kind_number result.kind) result.misplaced result.cursor.at }
 {
     let cursor = d.cursor;
     if d.any {
         return fraction(text, cursor, base, d.misplaced);
     }
     Figures {
-        kind: kinds::INT_EMPTY + 2 * base,
+        kind: Kind::Int { base, empty_int: true },
         misplaced: d.misplaced,
         cursor,
     }
@@ -132,7 +134,7 @@ fn based(text: &[u8], d: Digits, base: u32) -> Figures
 // Behind a first digit.
 pub fn number(text: &[u8], from: Cursor, first_digit: u32) -> Figures
     requires { from.at ≤ length text.now }
-    ensures { Numbered first_digit text.now from.at result.kind result.misplaced result.cursor.at }
+    ensures { Numbered first_digit text.now from.at (kind_number result.kind) result.misplaced result.cursor.at }
 {
     if first_digit == 0x30 {
         let x = from.first(text);
@@ -140,22 +142,22 @@ pub fn number(text: &[u8], from: Cursor, first_digit: u32) -> Figures
             return based(
                 text,
                 from.bump(text).eat_decimal_digits(text),
-                kinds::BINARY,
+                Base::Binary,
             );
         }
         if x == 0x6F {
-            return based(text, from.bump(text).eat_decimal_digits(text), kinds::OCTAL);
+            return based(text, from.bump(text).eat_decimal_digits(text), Base::Octal);
         }
         if x == 0x78 {
             return based(
                 text,
                 from.bump(text).eat_hexadecimal_digits(text),
-                kinds::HEXADECIMAL,
+                Base::Hexadecimal,
             );
         }
     }
     let d = from.eat_decimal_digits(text);
-    fraction(text, d.cursor, kinds::DECIMAL, d.misplaced)
+    fraction(text, d.cursor, Base::Decimal, d.misplaced)
 }
 
 pub fn is_unit(x: u32, y: u32) -> bool
@@ -182,20 +184,20 @@ pub fn has_timing_or_imaginary_suffix(text: &[u8], from: Cursor) -> bool
     is_unit(x, y)
 }
 
-fn eat_identifier(text: &[u8], from: Cursor, start: &[u32], more: &[u32]) -> Cursor
+fn eat_identifier(text: &[u8], from: Cursor, letters: Letters<'_>) -> Cursor
     requires { from.at ≤ length text.now }
-    ensures { Place text.now from.at result.at (identifier (start_in start.now) (more_in more.now) (left text.now from.at)) }
+    ensures { Place text.now from.at result.at (identifier (start_in letters.entry.start.now) (more_in letters.entry.more.now) (left text.now from.at)) }
 {
-    if !is_id_start_in(start, from.first(text)) {
+    if !letters.is_id_start(from.first(text)) {
         return from;
     }
-    from.bump(text).eat_id_continue(text, more)
+    from.bump(text).eat_id_continue(text, letters)
 }
 
 // The suffix of a literal is an identifier.
-pub fn eat_literal_suffix(text: &[u8], from: Cursor, start: &[u32], more: &[u32]) -> Cursor
+pub fn eat_literal_suffix(text: &[u8], from: Cursor, letters: Letters<'_>) -> Cursor
     requires { from.at ≤ length text.now }
-    ensures { Place text.now from.at result.at (identifier (start_in start.now) (more_in more.now) (left text.now from.at)) }
+    ensures { Place text.now from.at result.at (identifier (start_in letters.entry.start.now) (more_in letters.entry.more.now) (left text.now from.at)) }
 {
-    eat_identifier(text, from, start, more)
+    eat_identifier(text, from, letters)
 }

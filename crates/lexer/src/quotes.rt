@@ -3,14 +3,15 @@ ghost use Rattle.std.specs.Prelude.{◌≡◌, cond, ◌&&◌, ◌||◌, ◌+◌
 ghost use Rattle.lexer.specs.Cut.{escapes};
 ghost use Rattle.cutters.specs.Kinds.{str, bit_str};
 ghost use Rattle.lexer.specs.Steps.{Quoted, Added, bits_by};
+ghost use Rattle.cutters.specs.Numbers.{kind_number};
 
 use crate::cursor::{Cursor, byte};
-use crate::kinds;
+use cutters::{Kind};
 
 #[derive(Clone, Copy)]
 pub struct Quote {
     pub closed: bool,
-    pub kind: u32,
+    pub kind: Kind,
     pub cursor: Cursor,
 }
 
@@ -100,25 +101,16 @@ fn is_bits(closed: bool, plain: bool, lines: u32, prev: u32) -> bool
     false
 }
 
-fn quote_kind(closed: bool, bits: bool, twice: bool) -> u32
-    ensures { result ≡ cond bits (bit_str closed twice) (str closed) }
+fn quote_kind(closed: bool, bits: bool, twice: bool) -> Kind
+    ensures { kind_number result ≡ cond bits (bit_str closed twice) (str closed) }
 {
     if bits {
-        if twice {
-            if closed {
-                return kinds::BIT_STR_TWICE;
-            }
-            return kinds::BIT_STR_TWICE_UNCLOSED;
-        }
-        if closed {
-            return kinds::BIT_STR;
-        }
-        return kinds::BIT_STR_UNCLOSED;
+        return Kind::BitStr {
+            terminated: closed,
+            consecutive_underscores: twice,
+        };
     }
-    if closed {
-        return kinds::STR;
-    }
-    kinds::STR_UNCLOSED
+    Kind::Str { terminated: closed }
 }
 
 fn is_escape(text: &[u8], at: usize) -> bool
@@ -138,7 +130,7 @@ fn is_escape(text: &[u8], at: usize) -> bool
 // Behind a double quote, byte by byte: only ASCII ends it or is a bit.
 pub fn double_quoted_string(text: &[u8], from: Cursor) -> Quote
     requires { from.at ≤ length text.now }
-    ensures { Quoted text.now from.at result.closed result.kind result.cursor.at }
+    ensures { Quoted text.now from.at result.closed (kind_number result.kind) result.cursor.at }
 {
     let mut at = from.at;
     let mut body = Body {
