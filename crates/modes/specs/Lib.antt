@@ -1,2 +1,3 @@
 pub mod Modes
 pub mod Errors
+pub mod Numbers

@@ -1,42 +1,93 @@
-// The places of the errors and warnings in `EscapeError`, from 1. The tenth, OutOfRangeHexEscape, is never given and has no name here.
-pub const ZERO_CHARS: u32 = 1;
+// The errors and warnings of escapes, by the names of the Rust's `EscapeError`.
+ghost use Rattle.std.specs.Prelude.{◌≡◌};
+ghost use Rattle.modes.specs.Numbers.{error_number, is_fatal, is_error_of};
+ghost use Rattle.text.specs.Refusals.{told};
+ghost use Rattle.modes.specs.Errors.{fatal};
 
-pub const MORE_THAN_ONE_CHAR: u32 = 2;
+use text::Refusal;
 
-pub const LONE_SLASH: u32 = 3;
+// Their numbers go from 1 on. The tenth, OutOfRangeHexEscape, is never given.
+#[derive(Clone, Copy, Debug, PartialEq, Eq)]
+pub enum EscapeError {
+    ZeroChars = 1,
+    MoreThanOneChar,
+    LoneSlash,
+    InvalidEscape,
+    BareCarriageReturn,
+    BareCarriageReturnInRawString,
+    EscapeOnlyChar,
+    TooShortHexEscape,
+    InvalidCharInHexEscape,
+    OutOfRangeHexEscape,
+    NoBraceInUnicodeEscape,
+    InvalidCharInUnicodeEscape,
+    EmptyUnicodeEscape,
+    UnclosedUnicodeEscape,
+    LeadingUnderscoreUnicodeEscape,
+    OverlongUnicodeEscape,
+    LoneSurrogateUnicodeEscape,
+    OutOfRangeUnicodeEscape,
+    UnicodeEscapeInByte,
+    NonAsciiCharInByte,
+    UnskippedWhitespaceWarning,
+    MultipleSkippedLinesWarning,
+}
 
-pub const INVALID_ESCAPE: u32 = 4;
+impl TryFrom<u32> for EscapeError {
+    type Error = Refusal;
 
-pub const BARE_CARRIAGE_RETURN: u32 = 5;
+    ghost try_from_gives = { is_error_of };
 
-pub const BARE_CARRIAGE_RETURN_IN_RAW_STRING: u32 = 6;
+    fn try_from(number: u32) -> Result<EscapeError, Refusal> {
+        match number {
+            1 => Ok(EscapeError::ZeroChars),
+            2 => Ok(EscapeError::MoreThanOneChar),
+            3 => Ok(EscapeError::LoneSlash),
+            4 => Ok(EscapeError::InvalidEscape),
+            5 => Ok(EscapeError::BareCarriageReturn),
+            6 => Ok(EscapeError::BareCarriageReturnInRawString),
+            7 => Ok(EscapeError::EscapeOnlyChar),
+            8 => Ok(EscapeError::TooShortHexEscape),
+            9 => Ok(EscapeError::InvalidCharInHexEscape),
+            10 => Ok(EscapeError::OutOfRangeHexEscape),
+            11 => Ok(EscapeError::NoBraceInUnicodeEscape),
+            12 => Ok(EscapeError::InvalidCharInUnicodeEscape),
+            13 => Ok(EscapeError::EmptyUnicodeEscape),
+            14 => Ok(EscapeError::UnclosedUnicodeEscape),
+            15 => Ok(EscapeError::LeadingUnderscoreUnicodeEscape),
+            16 => Ok(EscapeError::OverlongUnicodeEscape),
+            17 => Ok(EscapeError::LoneSurrogateUnicodeEscape),
+            18 => Ok(EscapeError::OutOfRangeUnicodeEscape),
+            19 => Ok(EscapeError::UnicodeEscapeInByte),
+            20 => Ok(EscapeError::NonAsciiCharInByte),
+            21 => Ok(EscapeError::UnskippedWhitespaceWarning),
+            22 => Ok(EscapeError::MultipleSkippedLinesWarning),
+            _ => Err(Refusal::UnknownSelector),
+        }
+    }
+}
 
-pub const ESCAPE_ONLY_CHAR: u32 = 7;
+impl EscapeError {
+    pub fn number(self) -> u32
+        ensures { result ≡ error_number self }
+    {
+        self as u32
+    }
 
-pub const TOO_SHORT_HEX_ESCAPE: u32 = 8;
+    // Whether it is no mere warning.
+    pub fn is_fatal(self) -> bool
+        ensures { result ≡ is_fatal (error_number self) }
+    {
+        !matches!(
+            self,
+            EscapeError::UnskippedWhitespaceWarning | EscapeError::MultipleSkippedLinesWarning
+        )
+    }
+}
 
-pub const INVALID_CHAR_IN_HEX_ESCAPE: u32 = 9;
-
-pub const NO_BRACE_IN_UNICODE_ESCAPE: u32 = 11;
-
-pub const INVALID_CHAR_IN_UNICODE_ESCAPE: u32 = 12;
-
-pub const EMPTY_UNICODE_ESCAPE: u32 = 13;
-
-pub const UNCLOSED_UNICODE_ESCAPE: u32 = 14;
-
-pub const LEADING_UNDERSCORE_UNICODE_ESCAPE: u32 = 15;
-
-pub const OVERLONG_UNICODE_ESCAPE: u32 = 16;
-
-pub const LONE_SURROGATE_UNICODE_ESCAPE: u32 = 17;
-
-pub const OUT_OF_RANGE_UNICODE_ESCAPE: u32 = 18;
-
-pub const UNICODE_ESCAPE_IN_BYTE: u32 = 19;
-
-pub const NON_ASCII_CHAR_IN_BYTE: u32 = 20;
-
-pub const UNSKIPPED_WHITESPACE_WARNING: u32 = 21;
-
-pub const MULTIPLE_SKIPPED_LINES_WARNING: u32 = 22;
+// The same of the error with a number.
+pub fn is_fatal(error: u32) -> Result<bool, Refusal>
+    ensures { told result ≡ fatal error }
+{
+    Ok(EscapeError::try_from(error)?.is_fatal())
+}

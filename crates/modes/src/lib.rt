@@ -1,36 +1,90 @@
-// The modes of the bodies of literals, in the order of `Mode`; a character as a byte; and the tests on modes and errors.
-#![tactic(auto)]
+// The modes of the bodies of literals, by the names of the Rust's `Mode`, and the tests on them; a character as a byte; and the errors.
+#![tactic(auto, unfolding(crate::specs::Modes::is_single, crate::specs::Modes::in_double_quotes, crate::specs::Modes::characters_should_be_ascii, crate::specs::Modes::has_prefix, crate::specs::Modes::is_raw))]
 
-ghost use Rattle.std.specs.Prelude.{◌≡◌, cond, ◌%◌};
-ghost use Rattle.text.specs.Answer.{Answered, done, ◌and_then◌};
-ghost use Rattle.modes.specs.Modes.{check_mode, is_single, in_double_quotes, characters_should_be_ascii, is_unicode_escape_disallowed, has_prefix, is_raw, tested_mode};
-ghost use Rattle.modes.specs.Errors.{fatal};
+ghost use Rattle.std.specs.Prelude.{◌≡◌, ◌%◌};
+ghost use Rattle.text.specs.Refusals.{given, told};
+ghost use Rattle.modes.specs.Modes.{is_single, in_double_quotes, characters_should_be_ascii, is_unicode_escape_disallowed, has_prefix, is_raw, tested_mode};
+ghost use Rattle.modes.specs.Numbers.{mode_number, is_mode_of};
 
-pub mod errors;
+mod errors;
 
-use text::Answer;
+pub use errors::{EscapeError, is_fatal};
+use text::Refusal;
 
-pub const CHAR: u32 = 0;
+// Their numbers go from 0 on.
+#[derive(Clone, Copy, Debug, PartialEq, Eq)]
+pub enum Mode {
+    Char,
+    Str,
+    Byte,
+    BitStr,
+    ByteStr,
+    RawStr,
+    RawByteStr,
+}
 
-pub const STR: u32 = 1;
+impl TryFrom<u32> for Mode {
+    type Error = Refusal;
 
-pub const BYTE: u32 = 2;
+    ghost try_from_gives = { is_mode_of };
 
-pub const BIT_STR: u32 = 3;
+    fn try_from(number: u32) -> Result<Mode, Refusal> {
+        match number {
+            0 => Ok(Mode::Char),
+            1 => Ok(Mode::Str),
+            2 => Ok(Mode::Byte),
+            3 => Ok(Mode::BitStr),
+            4 => Ok(Mode::ByteStr),
+            5 => Ok(Mode::RawStr),
+            6 => Ok(Mode::RawByteStr),
+            _ => Err(Refusal::UnknownSelector),
+        }
+    }
+}
 
-pub const BYTE_STR: u32 = 4;
+impl Mode {
+    // Whether it holds one character.
+    pub fn is_single(self) -> bool
+        ensures { result ≡ is_single (mode_number self) }
+    {
+        matches!(self, Mode::Char | Mode::Byte)
+    }
 
-pub const RAW_STR: u32 = 5;
+    // Str, BitStr and ByteStr, raw or not.
+    pub fn in_double_quotes(self) -> bool
+        ensures { result ≡ in_double_quotes (mode_number self) }
+    {
+        !self.is_single()
+    }
 
-pub const RAW_BYTE_STR: u32 = 6;
+    pub fn characters_should_be_ascii(self) -> bool
+        ensures { result ≡ characters_should_be_ascii (mode_number self) }
+    {
+        matches!(
+            self,
+            Mode::Byte | Mode::BitStr | Mode::ByteStr | Mode::RawByteStr
+        )
+    }
 
-// How many modes there are.
-pub const MODES: u32 = 7;
+    pub fn is_unicode_escape_disallowed(self) -> bool
+        ensures { result ≡ is_unicode_escape_disallowed (mode_number self) }
+    {
+        self.characters_should_be_ascii()
+    }
 
-const UNKNOWN: Answer = Answer {
-    number: text::UNKNOWN_SELECTOR,
-    also: 0,
-};
+    // Whether the prefix is `b`.
+    pub fn has_prefix(self) -> bool
+        ensures { result ≡ has_prefix (mode_number self) }
+    {
+        matches!(self, Mode::Byte | Mode::ByteStr | Mode::RawByteStr)
+    }
+
+    pub fn is_raw(self) -> bool
+        ensures { result ≡ is_raw (mode_number self) }
+    {
+        matches!(self, Mode::RawStr | Mode::RawByteStr)
+    }
+}
 
 // The low eight bits.
 pub fn byte_from_char(c: u32) -> u8
@@ -43,123 +97,48 @@ pub fn byte_from_char(c: u32) -> u8
 pub fn is_single(mode: u32) -> bool
     ensures { result ≡ is_single mode }
 {
-    if mode == CHAR {
-        return true;
-    }
-    mode == BYTE
+    Mode::try_from(mode).is_ok_and(Mode::is_single)
 }
 
 pub fn is_ascii_only(mode: u32) -> bool
     ensures { result ≡ characters_should_be_ascii mode }
 {
-    if mode == BYTE {
-        return true;
-    }
-    if mode == BIT_STR {
-        return true;
-    }
-    if mode == BYTE_STR {
-        return true;
-    }
-    mode == RAW_BYTE_STR
+    Mode::try_from(mode).is_ok_and(Mode::characters_should_be_ascii)
 }
 
 pub fn has_prefix(mode: u32) -> bool
     ensures { result ≡ has_prefix mode }
 {
-    if mode == BYTE {
-        return true;
-    }
-    if mode == BYTE_STR {
-        return true;
-    }
-    mode == RAW_BYTE_STR
+    Mode::try_from(mode).is_ok_and(Mode::has_prefix)
 }
 
 pub fn is_raw(mode: u32) -> bool
     ensures { result ≡ is_raw mode }
 {
-    if mode == RAW_STR {
-        return true;
-    }
-    mode == RAW_BYTE_STR
+    Mode::try_from(mode).is_ok_and(Mode::is_raw)
 }
 
-// Str, BitStr and ByteStr, raw or not.
-fn is_quoted(mode: u32) -> bool
-    ensures { result ≡ in_double_quotes mode }
+pub fn in_double_quotes(mode: u32) -> Result<bool, Refusal>
+    ensures { told result ≡ tested_mode in_double_quotes mode }
 {
-    if mode == STR {
-        return true;
-    }
-    if mode == BIT_STR {
-        return true;
-    }
-    if mode == BYTE_STR {
-        return true;
-    }
-    is_raw(mode)
+    Ok(Mode::try_from(mode)?.in_double_quotes())
 }
 
-fn yes_or_no(yes: bool) -> Answer
-    ensures { Answered (done, cond yes 1 0) result.number result.also }
+pub fn characters_should_be_ascii(mode: u32) -> Result<bool, Refusal>
+    ensures { told result ≡ tested_mode characters_should_be_ascii mode }
 {
-    if yes {
-        return Answer {
-            number: text::DONE,
-            also: 1,
-        };
-    }
-    Answer {
-        number: text::DONE,
-        also: 0,
-    }
+    Ok(Mode::try_from(mode)?.characters_should_be_ascii())
 }
 
-// What a test on a mode said, if there is such a mode.
-fn if_known(mode: u32, yes: bool) -> Answer
-    ensures { Answered (check_mode mode and_then (done, cond yes 1 0)) result.number result.also }
+pub fn is_unicode_escape_disallowed(mode: u32) -> Result<bool, Refusal>
+    ensures { told result ≡ tested_mode is_unicode_escape_disallowed mode }
 {
-    if MODES <= mode {
-        return UNKNOWN;
-    }
-    yes_or_no(yes)
-}
-
-pub fn in_double_quotes(mode: u32) -> Answer
-    ensures { Answered (tested_mode in_double_quotes mode) result.number result.also }
-{
-    if_known(mode, is_quoted(mode))
-}
-
-pub fn characters_should_be_ascii(mode: u32) -> Answer
-    ensures { Answered (tested_mode characters_should_be_ascii mode) result.number result.also }
-{
-    if_known(mode, is_ascii_only(mode))
-}
-
-pub fn is_unicode_escape_disallowed(mode: u32) -> Answer
-    ensures { Answered (tested_mode is_unicode_escape_disallowed mode) result.number result.also }
-{
-    if_known(mode, is_ascii_only(mode))
+    Ok(Mode::try_from(mode)?.is_unicode_escape_disallowed())
 }
 
 // The length of the prefix: 1 for `b`, else 0.
-pub fn prefix_noraw(mode: u32) -> Answer
-    ensures { Answered (tested_mode has_prefix mode) result.number result.also }
+pub fn prefix_noraw(mode: u32) -> Result<usize, Refusal>
+    ensures { given result ≡ tested_mode has_prefix mode }
 {
-    if_known(mode, has_prefix(mode))
-}
-
-// Whether the error at a place of `EscapeError`, from 1, is no mere warning.
-pub fn is_fatal(error: u32) -> Answer
-    ensures { Answered (fatal error) result.number result.also }
-{
-    if error < errors::ZERO_CHARS {
-        return UNKNOWN;
-    }
-    if errors::MULTIPLE_SKIPPED_LINES_WARNING < error {
-        return UNKNOWN;
-    }
-    yes_or_no(error < errors::UNSKIPPED_WHITESPACE_WARNING)
+    Ok(usize::from(Mode::try_from(mode)?.has_prefix()))
 }
