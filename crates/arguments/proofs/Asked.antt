@@ -13,7 +13,7 @@ use Rattle.lists.proofs.Bools.{by_test}
 use Rattle.characters.specs.Direction.{unmarked}
 use Rattle.characters.proofs.Text.{chars_nil}
 use Rattle.characters.proofs.Valid.{valid_nil}
-use Rattle.text.specs.Answer.{Answered, done, unknown_selector, default_profile, known_profile, check_profile, check_text, check_marks, check_cut}
+use Rattle.text.specs.Answer.{done, unknown_selector, default_profile, known_profile, check_profile, check_text, check_marks, check_cut}
 use Rattle.text.proofs.Checks.{not_refused}
 use Rattle.arguments.specs.Arguments.{no_profile, named, asked, Right, none, zero, one}
 
@@ -67,8 +67,8 @@ check_empty : (p : ℕ) → check_cut [] p ≡ check_profile p
 unfolding check_cut check_marks
 check_empty p = rw (empty_passes, empty_plain) (by_test (known_profile p) (λ e. rw e) (λ e. rw e))
 
-pub asked_checked : (words : ℕ) (first : List ℕ) {p n a : ℕ} → p ≡ asked words first → Answered (check_cut [] p) n a → Answered (check_profile (asked words first)) n a
-asked_checked words first e h = rw (sym (check_empty (asked words first)), sym e) h
+pub asked_checked : (words : ℕ) (first : List ℕ) {p : ℕ} {r : ℕ × ℕ} → p ≡ asked words first → r ≡ check_cut [] p → r ≡ check_profile (asked words first)
+asked_checked words first {p} e h = h ∙ check_empty p ∙ ap check_profile e
 
 -- ---- THE THEOREM: the words that are right ask for 1, the default, for 0 and for 1
 pub none_asked : (first : List ℕ) → asked 0 first ≡ 1

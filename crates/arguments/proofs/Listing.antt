@@ -3,7 +3,7 @@
 -- Assumes nothing.
 use Prim.Native.Nat.{ℕ, ◌≤◌, ◌<◌}
 use native.Mathlib.Omega.{arith}
-use mathlib.Core.Path.{◌≡◌, sym, ◌∙◌}
+use mathlib.Core.Path.{◌≡◌, refl, ap, sym, ◌∙◌}
 use mathlib.Core.Bool.{true, false}
 use mathlib.Core.List.{List}
 use lib.Dec.{eqb}
@@ -12,7 +12,9 @@ use borrow.Author.Tests.{lt-ltb, le-ltb, ne_eqb}
 use Rattle.lists.proofs.Bools.{by_test}
 use Rattle.characters.specs.Direction.{unmarked_up_to}
 use Rattle.text.specs.Answer.{Answered, done, unknown_selector, too_long, direction_mark, known_profile, check_profile, CutMarked}
-use Rattle.text.proofs.Checks.{answered_unique}
+use Rattle.text.specs.declared.Refusal.{Refusal}
+use Rattle.text.specs.Refusals.{refused}
+use Rattle.text.proofs.Checks.{answered_unique, never_done}
 use Rattle.text.proofs.Marks.{marked_refused}
 use Rattle.listing.specs.Promises.{Listed, answer_of, listed}
 use Rattle.arguments.specs.Arguments.{most, asked, Right, asked_answer, asked_list, ListedAsked}
@@ -29,11 +31,11 @@ module _ (words : ℕ) (first s list : List ℕ) where
   unfolding asked_list
   refused_by_lem is e h p q = record { answer = rw e (record { number_is = p; also_is = q }); after = rw (e, ne_eqb is.0 done h) }
 
-  pub asked_refused : {n a : ℕ} → Answered (check_profile (asked words first)) n a → (n ≡ done → ⊥) → ListedAsked words first s list n a list
+  pub asked_refused : (r : Refusal) → refused r ≡ check_profile (asked words first) → ListedAsked words first s list (refused r).0 (refused r).1 list
   unfolding asked_answer
-  asked_refused c h =
-      by_test (known_profile (asked words first)) (λ e. absurd (h (c.number_is ∙ rw e)))
-      (λ e. refused_by_lem (unknown_selector, 0) (rw e) (λ z. omega (arith, z)) (c.number_is ∙ rw e) (c.also_is ∙ rw e))
+  asked_refused r c =
+      by_test (known_profile (asked words first)) (λ e. absurd (never_done r (ap (λ (x : ℕ × ℕ). x.0) c ∙ rw e)))
+      (λ e. refused_by_lem (refused r) (rw e (sym (c ∙ rw e))) (never_done r) refl refl)
 
   -- ---- under a known profile, and up to the limit, as `tokenize`
   module _ (k : known_profile (asked words first) ≡ true) (l : length s ≤ most) where
@@ -47,13 +49,13 @@ module _ (words : ℕ) (first s list : List ℕ) where
         by_test (eqb (answer_of s (asked words first) (length list)).0 done) (λ y. rw (known_answer, y))
         (λ n. rw (known_answer, n) (sym (unlisted s (asked words first) list n)))
 
-  module _ {m b : ℕ} (c : Answered (check_profile (asked words first)) m b) (d : m ≡ done) where
+  module _ (c : (done, 0) ≡ check_profile (asked words first)) where
     known : known_profile (asked words first) ≡ true
-    known = by_test (known_profile (asked words first)) (λ e. e) (λ e. absurd (omega (arith, d, (rw e at c).number_is)))
+    known = by_test (known_profile (asked words first)) (λ e. e) (λ e. let k : done ≡ (check_profile (asked words first)).0 = ap (λ (x : ℕ × ℕ). x.0) c in absurd (omega (arith, rw e at k)))
 
-    pub asked_long : {n a : ℕ} → most < length s → n ≡ too_long → a ≡ 0 → ListedAsked words first s list n a list
+    pub asked_long : most < length s → ListedAsked words first s list too_long 0 list
     unfolding asked_answer
-    asked_long l p q = refused_by_lem (too_long, 0) (rw (known, lt-ltb most (length s) l)) (λ z. omega (arith, z)) p q
+    asked_long l = refused_by_lem (too_long, 0) (rw (known, lt-ltb most (length s) l)) (λ z. omega (arith, z)) refl refl
 
     pub asked_listed : {p n a : ℕ} {list' : List ℕ} → length s ≤ most → p ≡ asked words first → Listed s p list n a list' → ListedAsked words first s list n a list'
     asked_listed l e h =

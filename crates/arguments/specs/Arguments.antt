@@ -1,12 +1,17 @@
 -- Which profile the words behind a program's name ask for, and what `oqlist` answers.
 -- Assumes nothing.
-use Rattle.std.specs.Prelude.{ℕ, ◌≡◌, cond, List, [], ◌∷◌, eqb, ltb, length}
+use Rattle.std.specs.Prelude.{ℕ, ◌≡◌, cond, Option, Some, None, List, [], ◌∷◌, eqb, ltb, length}
 use Rattle.text.specs.Answer.{Answered, done, too_long, default_profile, check_profile, ◌and_then◌}
 use Rattle.listing.specs.Promises.{answer_of, listed}
 
 -- what names no profile: a number that none has
 abbrev pub no_profile : ℕ
 no_profile = 4294967295
+
+-- the number of what code tells as a profile or none
+abbrev pub told : Option ℕ → ℕ
+told (Some p) = p
+told None = no_profile
 
 -- the word `0` names profile 0, the word `1` profile 1, and any other none
 unfoldable pub named : List ℕ → ℕ

@@ -5,9 +5,10 @@ use native.Mathlib.Decide.{dec_lt}
 use native.Mathlib.Omega.{arith}
 use mathlib.Core.Path.{◌≡◌, refl, ap, sym, ◌∙◌, subst}
 use mathlib.Core.Logic.{◌⊎◌, inl, inr}
-use mathlib.Core.List.{List, [], ◌∷◌, ◌++◌}
-use lib.ListN.{length, drop, get_or, length-take, length-drop, drop_of_length-le}
-use lib.Seq.{sets, length-sets, take_all, take-nil}
+use mathlib.Core.List.{List, [], ◌∷◌, ◌++◌, append_assoc}
+use lib.ListN.{length, take, drop, get_or, length-take, length-drop, drop_of_length-le}
+use lib.Seq.{sets, sets-eq, length-sets, take_all, take-nil}
+use borrow.Rule.Slice.PartMut.{put_mid, Post-is}
 use lib.Dec.{ltb}
 use borrow.Author.Tests.{lt-ltb, le-ltb}
 use Rattle.lists.proofs.Bools.{by_test}
@@ -18,8 +19,11 @@ use Rattle.characters.specs.Direction.{unmarked_up_to}
 use Rattle.text.specs.Answer.{Answered, done, direction_mark, longest, check_cut, CutMarked}
 use Rattle.text.specs.Steps.{Entered}
 use Rattle.text.proofs.Room as room
-use Rattle.text.proofs.Checks.{cut_passed}
+use Rattle.text.specs.declared.Refusal.{Refusal}
+use Rattle.text.specs.Refusals.{refused}
+use Rattle.text.proofs.Checks.{cut_accepted, never_done}
 use Rattle.text.proofs.Marks.{marked_refused}
+use Rattle.cutters.specs.Kinds.{eof}
 use Rattle.cutters.specs.Records.{Token, total, record_words, misplaced_at, words_of, flat_from}
 use Rattle.cutters.specs.Underscores.{misplaced_in, misplaced_of}
 use Rattle.cutters.proofs.Underscores.{word_most}
@@ -28,7 +32,7 @@ use Rattle.lexer.specs.Cut.{Letters}
 use Rattle.lexer.specs.Unicode.{unicode, lent}
 use Rattle.listing.specs.Steps.{Filled, StoredTokens, run_from}
 use Rattle.lexer.specs.Promises.{tokens3, tokens_of, front, tokens_by, Advanced}
-use Rattle.listing.specs.Promises.{answer_of, listed, Listed, run, CutRun, TokenAt}
+use Rattle.listing.specs.Promises.{answer_of, listed, Listed, run, CutRun, token_at, TokenAt}
 use Rattle.lexer.proofs.Places.{few_tokens, tokens_some, tokens_first, next_within, none_left, advanced_view, end_some, known3}
 use Rattle.lexer.proofs.Unicode.{lent_is}
 use Rattle.characters.specs.Ranges.{flat}
@@ -48,6 +52,12 @@ pub record Filling (u : Letters) (profile : ℕ) (s : List ℕ) (from : ℕ) (li
   pub place : at + total (run_from u profile s at (room - n)) ≡ from + total (run_from u profile s from room)
   pub rest : drop (room - n) (tokens_by u profile (drop at s)) ≡ drop room (tokens_by u profile (drop from s))
   pub same : sets list k (flat_from s at (run_from u profile s at (room - n))) ≡ sets list₀ 0 (flat_from s from (run_from u profile s from room))
+
+-- the words of a record that are copied into the list at a place
+pub words_stored : {part w : List ℕ} (list : List ℕ) (k : ℕ) → part ≡ w → length w ≡ record_words → k + record_words ≤ length list → put_mid k (k + record_words - k) list part ≡ sets list k w
+words_stored {w = w} list k e n h =
+    rw (e, ← n)
+    (ap (λ (l : List ℕ). take k list ++ (w ++ l)) (Post-is k (k + length w) list (omega arith)) ∙ sym (append_assoc (take k list) w (drop (k + length w) list)) ∙ sym (sets-eq w list k (omega (arith, n))))
 
 pub filling_none : (u : Letters) (profile : ℕ) (s : List ℕ) (from : ℕ) (list : List ℕ) {full : ℕ} → full ≡ length list / record_words * record_words → Filling u profile s from list full from 0 list
 filling_none u profile s from list {full} r =
@@ -193,43 +203,45 @@ module _ {u : Letters} {profile : ℕ} {s list list' : List ℕ} {number also : 
   pub stored_counted : {at n m : ℕ} → Filled u profile s 0 list at n list' → m ≡ length (tokens_by u profile s) → m ≤ length list / record_words → number ≡ done → also ≡ n → StoredTokens u profile s list number also list'
   stored_counted w c l = stored w (omega arith)
 
--- so what is stored over the constants is what is stored over Unicode's letters
-pub lent_stored : (profile : ℕ) (s : List ℕ) {number also : ℕ} {list list' : List ℕ} → StoredTokens (lent (flat xid_start) (flat xid_continue) (flat emoji)) profile s list number also list' → StoredTokens unicode profile s list number also list'
-lent_stored profile s {number} {also} {list} {list'} r = subst (λ (u : Letters). StoredTokens u profile s list number also list') lent_is r
-
 -- ---- the whole
 listed_by : {s list list' : List ℕ} {profile number also : ℕ} → Entered (check_cut s profile) (length list / record_words) (length (tokens_of profile s)) (flat_from s 0 (tokens_of profile s)) list number also list' → Listed s profile list number also list'
 unfolding answer_of listed
 listed_by e = record { answer = e.answer; words = e.memory }
 
-pub listed_refused : {s list list' : List ℕ} {profile number also : ℕ} → Answered (check_cut s profile) number also → (number ≡ done → ⊥) → list' ≡ list → Listed s profile list number also list'
-listed_refused a n e = listed_by (room.refused a n e)
+pub listed_refused : (s list : List ℕ) (profile : ℕ) (r : Refusal) → refused r ≡ check_cut s profile → Listed s profile list (refused r).0 (refused r).1 list
+listed_refused s list profile r e =
+    listed_by (room.refused (record { number_is = ap (λ (x : ℕ × ℕ). x.0) e; also_is = ap (λ (x : ℕ × ℕ). x.1) e }) (never_done r) refl)
 
-pub listed_done : {s list list' : List ℕ} {profile n₀ a₀ number also : ℕ} → Answered (check_cut s profile) n₀ a₀ → n₀ ≡ done → StoredTokens unicode profile s list number also list' → Listed s profile list number also list'
+-- what passes the checks is not too long
+pub cut_short : (s : List ℕ) (profile : ℕ) → (done, 0) ≡ check_cut s profile → length s ≤ longest
+cut_short s profile c = (cut_accepted s profile (ap (λ (x : ℕ × ℕ). x.0) (sym c))).text.short
+
+pub listed_done : {u : Letters} (s : List ℕ) (profile : ℕ) {list list' : List ℕ} {number also : ℕ} → (done, 0) ≡ check_cut s profile → u ≡ unicode → StoredTokens u profile s list number also list' → Listed s profile list number also list'
 unfolding tokens3
-listed_done {s} {profile = profile} c z r = listed_by (room.passed c z (rw (known3 profile s (cut_passed s profile c z).known) r))
+listed_done s profile {list} {list'} {number} {also} c l r =
+    let z : (check_cut s profile).0 ≡ done = ap (λ (x : ℕ × ℕ). x.0) (sym c) in
+    let k = known3 profile s (cut_accepted s profile z).known in
+    listed_by (room.passed (record { number_is = refl; also_is = refl }) z (rw k (subst (λ (u : Letters). StoredTokens u profile s list number also list') l r)))
 
 -- ---- a run of one token
--- a record of noughts, and the words of at most one token before it
-abbrev none : List ℕ
-none = 0 ∷ 0 ∷ 0 ∷ 0 ∷ 0 ∷ []
-
-one_words : (s : List ℕ) (at : ℕ) (l : List Token) → length l ≤ 1 → {list : List ℕ} → list ≡ flat_from s at l ++ drop (length (flat_from s at l)) none → (get_or list 0 0 ≡ (front l).kind) × (get_or list 2 0 ≡ (front l).suffix) × (get_or list 4 0 ≡ misplaced_at s at (front l)) × (total l ≡ (front l).len)
-unfolding flat_from front misplaced_of misplaced_in
-one_words s at [] h e = (ap (λ (l : List ℕ). get_or l 0 0) e, ap (λ (l : List ℕ). get_or l 2 0) e, ap (λ (l : List ℕ). get_or l 4 0) e, refl)
-one_words s at (t ∷ []) h e = (ap (λ (l : List ℕ). get_or l 0 0) e, ap (λ (l : List ℕ). get_or l 2 0) e, ap (λ (l : List ℕ). get_or l 4 0) e, omega arith)
-one_words s at (t ∷ t' ∷ ts) h e = absurd (omega arith)
+pub front_one : (l : List Token) → front (take 1 l) ≡ front l
+unfolding front
+front_one [] = refl
+front_one (t ∷ ts) = refl
 
 module _ (u : Letters) (profile : ℕ) (s : List ℕ) (at : ℕ) where
-  abbrev one : List Token
-  one = run u profile s at 1
-
-  one_few : length one ≤ 1
+  -- of a text that is not too long it is the first of the tokens from the place on
+  pub first_of : length s ≤ longest → token_at u profile s at ≡ front (tokens_by u profile (drop at s))
   unfolding run
-  one_few = by_test (ltb longest (length s)) (λ t. rw t (omega arith)) (λ t. rw t (omega (arith, length-take 1 (tokens_by u profile (drop at s)))))
+  first_of h = rw (le-ltb longest (length s) h, front_one (tokens_by u profile (drop at s)))
+
+  -- and of one that is, none
+  none_of : longest < length s → token_at u profile s at ≡ front []
+  unfolding run
+  none_of h = rw (lt-ltb longest (length s) h)
 
   -- a token stands within its text
-  pub one_within : (at + (front one).suffix ≤ max at (length s)) × (at + (front one).len ≤ max at (length s))
+  pub one_within : (at + (token_at u profile s at).suffix ≤ max at (length s)) × (at + (token_at u profile s at).len ≤ max at (length s))
   unfolding run front
   one_within =
       by_test (ltb longest (length s))
@@ -243,19 +255,16 @@ module _ (u : Letters) (profile : ℕ) (s : List ℕ) (at : ℕ) where
         | no n ↦ rw (t, none_left u profile s at (omega arith)) (omega arith, omega arith)
       ])
 
-module _ {u : Letters} {profile : ℕ} {s list' : List ℕ} {at end count : ℕ} (r : CutRun u profile s at none end count list') where
-  pub one_suffix : at + get_or list' 2 0 ≤ max at (length s)
-  one_suffix = omega (arith, (one_within u profile s at).0, (one_words s at (one u profile s at) (one_few u profile s at) r.words).1)
+  pub one_none : longest < length s → TokenAt u profile s at eof at 0 at
+  unfolding front misplaced_of misplaced_in
+  one_none h =
+      let e = none_of h in
+      record { kind_is = rw e; suffix_is = rw e (omega arith); found_is = rw e; end_is = rw e (omega arith) }
 
-  pub one_misplaced : get_or list' 4 0 ≤ length s
-  one_misplaced =
-      let w = one_words s at (one u profile s at) (one_few u profile s at) r.words in
-      omega (arith, w.2, word_most s at (front (one u profile s at)))
-
-  pub one_token : {kind suffixAt found end' : ℕ} → kind ≡ get_or list' 0 0 → suffixAt ≡ at + get_or list' 2 0 → found ≡ get_or list' 4 0 → end' ≡ end → TokenAt u profile s at kind suffixAt found end'
-  one_token k m f e =
-      let w = one_words s at (one u profile s at) (one_few u profile s at) r.words in
-      record { kind_is = k ∙ w.0; suffix_is = m ∙ ap (λ (n : ℕ). at + n) w.1; found_is = f ∙ w.2; end_is = e ∙ r.reached ∙ ap (λ (n : ℕ). at + n) w.3 }
+  pub one_token : {kind suffixAt found end : ℕ} → length s ≤ longest → Advanced u profile s at kind suffixAt found end → TokenAt u profile s at kind suffixAt found end
+  one_token h a =
+      let e = first_of h in
+      record { kind_is = rw e a.kind_is; suffix_is = rw e a.suffix_is; found_is = rw e a.found_is; end_is = rw e a.end_is }
 
 -- a place of the token is at or behind its start, and within the text
 module _ {u : Letters} {profile : ℕ} {s : List ℕ} {at kind suffixAt found end : ℕ} (a : TokenAt u profile s at kind suffixAt found end) where
@@ -266,7 +275,7 @@ module _ {u : Letters} {profile : ℕ} {s : List ℕ} {at kind suffixAt found en
   one_end = (omega (arith, a.end_is), omega (arith, a.end_is, (one_within u profile s at).1))
 
   pub one_found : found ≤ length s
-  one_found = omega (arith, a.found_is, word_most s at (front (one u profile s at)))
+  one_found = omega (arith, a.found_is, word_most s at (token_at u profile s at))
 
 -- ---- A TEXT WITH A DIRECTION MARK is refused with 7, in whatever room, and the list is left as it was
 pub listed_marked : {s list list' : List ℕ} {profile number also : ℕ} → CutMarked s profile → Listed s profile list number also list' → (number ≡ direction_mark) × (also ≡ unmarked_up_to s) × (list' ≡ list)

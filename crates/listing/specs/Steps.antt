@@ -1,11 +1,21 @@
 -- What the functions behind `tokenize` and `cut_run` answer.
 -- Assumes nothing.
-use Rattle.std.specs.Prelude.{ℕ, ◌+◌, ◌/◌, ◌≡◌, List, length, take, drop}
+use Rattle.std.specs.Prelude.{ℕ, ◌+◌, ◌/◌, ◌≡◌, ◌≤◌, List, length, take, drop}
 use Rattle.std.proofs.lemmas.List.Edits.{sets}
+use Rattle.text.specs.Answer.{longest}
 use Rattle.text.specs.Steps.{Stored}
 use Rattle.cutters.specs.Records.{Token, total, record_words, flat_from}
 use Rattle.lexer.specs.Cut.{Letters}
 use Rattle.lexer.specs.Promises.{tokens_by}
+
+-- ---- the places of a token that starts at a place, as its record can hold them
+pub record Placed (at suffixAt found end : ℕ) : Type 0 where
+  pub before_suffix : at ≤ suffixAt
+  pub before_end : at ≤ end
+  pub start_fits : at ≤ longest
+  pub suffix_fits : suffixAt ≤ longest
+  pub found_fits : found ≤ longest
+  pub end_fits : end ≤ longest
 
 -- ---- a run of tokens, of a text that is not too long
 abbrev pub run_from : Letters → ℕ → List ℕ → ℕ → ℕ → List Token

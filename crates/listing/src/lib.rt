@@ -1,20 +1,19 @@
 // The list of tokens of a whole text, or of a run of them from a place on, the words of a record for each.
 #![tactic(auto)]
 
-ghost use Rattle.std.specs.Prelude.{◌≡◌, ◌+◌, ◌≤◌, [], ◌∷◌, length};
-ghost use Rattle.std.proofs.lemmas.List.Edits.{sets};
+ghost use Rattle.std.specs.Prelude.{◌≡◌, ◌-◌, ◌≤◌, ◌<◌, [], ◌∷◌, length};
 ghost use Rattle.text.specs.Answer.{longest};
-ghost use Rattle.cutters.specs.Records.{record_words};
-ghost use Rattle.lexer.specs.Unicode.{lent, unicode};
+ghost use Rattle.text.specs.Refusals.{given};
+ghost use Rattle.cutters.specs.Numbers.{kind_number};
+ghost use Rattle.lexer.specs.Unicode.{letters_in};
 ghost use Rattle.lexer.specs.Promises.{tokens_by};
 ghost use Rattle.listing.specs.Promises.{Listed, CutRun, TokenAt};
-ghost use Rattle.listing.specs.Steps.{Filled, StoredTokens};
+ghost use Rattle.listing.specs.Steps.{Filled, StoredTokens, Placed};
 
 pub use cutters::Piece;
 use cutters::RECORD;
-use lexer::advance_token;
-use text::{Answer, check_cut};
-use ucd::tables;
+use lexer::{Kind, Letters, advance_token};
+use text::{LONGEST, Refusal, check_cut};
 
 // Runs are of 64 tokens where nobody says how many.
 const RUN: usize = 64 * RECORD;
@@ -26,45 +25,33 @@ pub struct Run {
     pub count: usize,
 }
 
-// The words of a record, from place k on.
-fn put(list: &mut [u32], k: usize, kind: u32, len: u32, suffix: u32, start: u32, misplaced: u32)
-    requires { k + record_words ≤ length list.old }
-    ensures { list.new ≡ sets list.old k (kind ∷ len ∷ suffix ∷ start ∷ misplaced ∷ []) }
+// The words of the record of a token that starts at a place.
+fn words(at: usize, t: Piece) -> [u32; RECORD]
+    requires { Placed at t.suffix t.misplaced t.end }
+    ensures { result ≡ kind_number t.kind ∷ (t.end - at) ∷ (t.suffix - at) ∷ at ∷ t.misplaced ∷ [] }
 {
-    list[k] = kind;
-    list[k + 1] = len;
-    list[k + 2] = suffix;
-    list[k + 3] = start;
-    list[k + 4] = misplaced;
+    [
+        t.kind.number(),
+        (t.end - at) as u32,
+        (t.suffix - at) as u32,
+        at as u32,
+        t.misplaced as u32,
+    ]
 }
 
 // Fills the list with tokens from a place on, until it is full or the text ends. It is the one loop around the cutter, which is so
 // compiled into it. It counts words and not records: a record's first word is then found with nothing worked out.
-fn fill(
-    text: &[u8],
-    from: usize,
-    profile: u32,
-    list: &mut [u32],
-    start: &[u32],
-    more: &[u32],
-    emoji: &[u32],
-) -> Run
+fn fill(text: &[u8], from: usize, profile: u32, list: &mut [u32], letters: Letters<'_>) -> Run
     requires { length text.now ≤ longest }
-    ensures { Filled (lent start.now more.now emoji.now) profile text.now from list.old result.at result.count list.new }
+    ensures { Filled (letters_in letters.entry) profile text.now from list.old result.at result.count list.new }
 {
     let full = list.len() / RECORD * RECORD;
     let mut at = from;
     let mut k: usize = 0;
-    while k < full {
-        if text.len() <= at {
-            break;
-        }
-        let t = advance_token(text, at, profile, start, more, emoji);
-        let len = (t.end - at) as u32;
-        let suffix = (t.suffix - at) as u32;
-        let misplaced = t.misplaced as u32;
-        put(list, k, t.kind, len, suffix, at as u32, misplaced);
-        k = k + RECORD;
+    while k < full && at < text.len() {
+        let t = advance_token(text, at, profile, letters);
+        list[k..k + RECORD].copy_from_slice(&words(at, t));
+        k += RECORD;
         at = t.end;
     }
     Run {
@@ -80,54 +67,42 @@ pub fn cut_run(
     from: usize,
     profile: u32,
     list: &mut [u32],
-    start: &[u32],
-    more: &[u32],
-    emoji: &[u32],
+    letters: Letters<'_>,
 ) -> Run
-    ensures { CutRun (lent start.now more.now emoji.now) profile text.now from list.old result.at result.count list.new }
+    ensures { CutRun (letters_in letters.entry) profile text.now from list.old result.at result.count list.new }
 {
-    if text::LONGEST < text.len() {
+    if LONGEST < text.len() {
         return Run { at: from, count: 0 };
     }
-    let r = fill(text, from, profile, list, start, more, emoji);
-    Run {
-        at: r.at,
-        count: r.count,
-    }
+    fill(text, from, profile, list, letters)
 }
 
-// The token at a place, by a run of one: where `cut_run` gives none, kind 0 and no length.
-pub fn token_at(
-    text: &[u8],
-    at: usize,
-    profile: u32,
-    start: &[u32],
-    more: &[u32],
-    emoji: &[u32],
-) -> Piece
-    ensures { TokenAt (lent start.now more.now emoji.now) profile text.now at result.kind result.suffix result.misplaced result.end }
+// The token at a place; where `cut_run` gives none, no kind and no length.
+pub fn token_at(text: &[u8], at: usize, profile: u32, letters: Letters<'_>) -> Piece
+    ensures { TokenAt (letters_in letters.entry) profile text.now at (kind_number result.kind) result.suffix result.misplaced result.end }
 {
-    let mut words = [0u32; RECORD];
-    let r = cut_run(text, at, profile, &mut words, start, more, emoji);
-    Piece {
-        kind: words[0],
-        suffix: at + words[2] as usize,
-        misplaced: words[4] as usize,
-        end: r.at,
+    if LONGEST < text.len() {
+        return Piece {
+            kind: Kind::Eof,
+            suffix: at,
+            misplaced: 0,
+            end: at,
+        };
     }
+    advance_token(text, at, profile, letters)
 }
 
 // How many tokens a text has, by runs of 64.
-fn count(text: &[u8], profile: u32, start: &[u32], more: &[u32], emoji: &[u32]) -> usize
+fn count(text: &[u8], profile: u32, letters: Letters<'_>) -> usize
     requires { length text.now ≤ longest }
-    ensures { result ≡ length (tokens_by (lent start.now more.now emoji.now) profile text.now) }
+    ensures { result ≡ length (tokens_by (letters_in letters.entry) profile text.now) }
 {
     let mut list = [0u32; RUN];
     let mut at: usize = 0;
     let mut n: usize = 0;
     while at < text.len() {
-        let r = fill(text, at, profile, &mut list, start, more, emoji);
-        n = n + r.count;
+        let r = fill(text, at, profile, &mut list, letters);
+        n += r.count;
         at = r.at;
     }
     n
@@ -139,52 +114,26 @@ fn store(
     text: &[u8],
     profile: u32,
     list: &mut [u32],
-    start: &[u32],
-    more: &[u32],
-    emoji: &[u32],
-) -> Answer
+    letters: Letters<'_>,
+) -> Result<usize, Refusal>
     requires { length text.now ≤ longest }
-    ensures { StoredTokens (lent start.now more.now emoji.now) profile text.now list.old result.number result.also list.new }
+    ensures { StoredTokens (letters_in letters.entry) profile text.now list.old (given result).0 (given result).1 list.new }
 {
-    if list.len() / RECORD < text.len() {
-        let n = count(text, profile, start, more, emoji);
-        if list.len() / RECORD < n {
-            return Answer {
-                number: text::ROOM_TOO_SMALL,
-                also: n as u64,
-            };
+    let room = list.len() / RECORD;
+    if room < text.len() {
+        let n = count(text, profile, letters);
+        if room < n {
+            return Err(Refusal::RoomTooSmall(n));
         }
     }
-    let r = fill(text, 0, profile, list, start, more, emoji);
-    Answer {
-        number: text::DONE,
-        also: r.count as u64,
-    }
-}
-
-// Lends the tables, once for the whole text.
-fn lend(text: &[u8], profile: u32, list: &mut [u32]) -> Answer
-    requires { length text.now ≤ longest }
-    ensures { StoredTokens unicode profile text.now list.old result.number result.also list.new }
-{
-    store(
-        text,
-        profile,
-        list,
-        &tables::XID_START,
-        &tables::XID_CONTINUE,
-        &tables::EMOJI,
-    )
+    Ok(fill(text, 0, profile, list, letters).count)
 }
 
 // The tokens of a text, `RECORD` words for each: kind, length in bytes, suffix start, where it starts in the text, and where its first
 // misplaced underscore stands in it, 0 for none, all in bytes.
-pub fn tokenize(text: &[u8], profile: u32, list: &mut [u32]) -> Answer
-    ensures { Listed text.now profile list.old result.number result.also list.new }
+pub fn tokenize(text: &[u8], profile: u32, list: &mut [u32]) -> Result<usize, Refusal>
+    ensures { Listed text.now profile list.old (given result).0 (given result).1 list.new }
 {
-    let checked = check_cut(text, profile);
-    if checked.number != text::DONE {
-        return checked;
-    }
-    lend(text, profile, list)
+    check_cut(text, profile)?;
+    store(text, profile, list, Letters::unicode())
 }
