@@ -1,6 +1,1 @@
-pub mod Ways
-pub mod Deciding
-pub mod Ending
 pub mod Coding
-pub mod Seeing
-pub mod Depths

@@ -1,19 +1,23 @@
 -- What the states and the acts of the code mean.
 -- Assumes nothing.
-use Rattle.std.specs.Prelude.{ℕ, ◌≡◌, Bool, false, cond, List, [], ltb}
+use Rattle.std.specs.Prelude.{ℕ, ◌≡◌, Bool, false, cond, Option, None, Some, List, [], ltb}
+use Rattle.std.specs.Int.NonZero.{non_zero_u32_get}
+use Rattle.std.specs.declared.num.NonZeroU32.{NonZeroU32}
+use Rattle.cutters.specs.Numbers.{base_number}
+use Rattle.cutters.specs.declared.kinds.Base as B
 use Rattle.lexer.specs.Cut.{Letters}
+use Rattle.lexer.specs.Unicode.{letters_in}
 use Rattle.locality.specs.Machine as M
 use Rattle.locality.specs.Phases as P
 use Rattle.feeding.specs.Lexer.{depth_of}
 use Rattle.feeding.specs.Tracker as T
 use Rattle.phases.specs.declared.Line as L
 use Rattle.phases.specs.declared.Line.TheVariants.{Comment, Pragma, Annotation}
-use Rattle.phases.specs.declared.Base as B
-use Rattle.phases.specs.declared.Base.TheVariants.{Binary, Octal, Decimal, Hexadecimal}
 use Rattle.phases.specs.declared.Seen as S
 use Rattle.phases.specs.declared.Seen.TheVariants.{Bits, Broken, Other}
 use Rattle.phases.specs.declared.Phase as D
 use Rattle.phases.specs.declared.Phase.TheVariants as X
+use Rattle.phases.specs.declared.Look as N
 use Rattle.phases.specs.declared.Act as A
 use Rattle.phases.specs.declared.Act.TheVariants as Y
 use Rattle.phases.specs.declared.tracker.Tracker as W
@@ -24,10 +28,7 @@ line_of Pragma = P.of_pragma
 line_of Annotation = P.of_annotation
 
 abbrev pub base_of : B.Base → ℕ
-base_of Binary = 0
-base_of Octal = 1
-base_of Decimal = 2
-base_of Hexadecimal = 3
+base_of = base_number
 
 abbrev pub seen_of : S.Seen → P.Seen
 seen_of (Bits two low) = P.bits two low
@@ -61,10 +62,20 @@ phase_of (X.Single k) = P.single k
 
 abbrev pub act_of : A.Act → M.Act P.Phase
 act_of (Y.Eats b q) = M.eats b (phase_of q)
-act_of (Y.Halts b k) = M.halts b k
+act_of (Y.Halts e) = M.halts e.suffix e.kind
+
+-- the letters that are lent beside the characters that a state looks at
+abbrev pub lent_to : N.Look → Letters
+lent_to l = letters_in l.letters
+
+-- a place, or 0
+abbrev pub place_number : Option NonZeroU32 → ℕ
+place_number None = 0
+place_number (Some n) = non_zero_u32_get n
 
 abbrev pub tracker_of : W.Tracker → T.Tracker
-tracker_of o = record { found = o.found; wait = o.wait; prev = o.prev; hex = o.hex; shut = o.shut }
+tracker_of o =
+    record { found = place_number o.found; wait = place_number o.wait; prev = o.prev; hex = o.hex; shut = o.shut }
 
 -- what is done in a state, for a comment of any depth that an integer can say and one more: where the depth is all that it can say, the token ends with
 -- kind 0, which no token has. A text of 4,294,967,295 bytes opens no comment so deep

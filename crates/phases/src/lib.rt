@@ -1,11 +1,13 @@
 // The machine of `locality/specs/Phases` in code: the state behind a first character, and what is done in each state.
 #![tactic(auto)]
 
-ghost use Rattle.std.specs.Prelude.{◌≡◌, [], ◌∷◌};
-ghost use Rattle.lexer.specs.Unicode.{lent};
+ghost use Rattle.std.specs.Prelude.{◌≡◌, true, false, [], ◌∷◌};
+ghost use Rattle.cutters.specs.Numbers.{kind_number};
+ghost use Rattle.lexer.specs.Unicode.{letters_in};
+ghost use Rattle.locality.specs.Machine.{eats, halts};
 ghost use Rattle.locality.specs.Phases.{first};
 ghost use Rattle.feeding.specs.Lexer.{depth_of};
-ghost use Rattle.phases.specs.Coded.{phase_of, act_of, act_in, EndsWith};
+ghost use Rattle.phases.specs.Coded.{phase_of, act_of, lent_to, act_in, EndsWith};
 
 pub mod codec;
 mod lines;
@@ -15,12 +17,12 @@ mod tests;
 pub mod tracker;
 mod words;
 
-use letters::is_whitespace;
-use lexer::{is_digit, is_id_start_in, is_wide_emoji, kinds};
-use lines::{inside_acts, into_acts, line_acts, line_kind, slash_acts, space_acts};
+use cutters::{Base, Kind};
+use lexer::{Letters, is_digit, is_whitespace};
+use lines::{inside_acts, into_acts, line_acts, slash_acts, space_acts};
 use numbers::{
-    behind_e_acts, decimals_acts, digit_phase, figure_acts, float_kind, int_kind, pointed_acts,
-    power_acts, suffix_acts, suffixed_acts, zero_acts,
+    behind_e_acts, decimals_acts, digit_phase, figure_acts, pointed_acts, power_acts, suffix_acts,
+    suffixed_acts, zero_acts,
 };
 use quotes::{quote_acts, seen_kind};
 use tests::mark_of;
@@ -37,68 +39,113 @@ pub enum Line {
     Annotation,
 }
 
-#[derive(Clone, Copy)]
-pub enum Base {
-    Binary,
-    Octal,
-    Decimal,
-    Hexadecimal,
-}
-
 // What has been seen of a quoted text: only 0, 1 and underscores (whether two of these stood side by side, and whether one is the
 // last); the same and then an LF; anything else.
 #[derive(Clone, Copy)]
 pub enum Seen {
-    Bits(bool, bool),
-    Broken(bool),
+    Bits { twice: bool, low: bool },
+    Broken { twice: bool },
     Other,
 }
 
-// The states, each with what it has to remember.
+// The states, each with what it has to remember. A kind is a number here, and no `Kind`: a state that a caller hands in may name any number, and `Called` of
+// `parts` says what is done under each.
 #[derive(Clone, Copy)]
 pub enum Phase {
     BehindSlash,
     Line(Line),
-    Inside(u32),
-    Into(u32),
+    Inside { depth: u32 },
+    Into { depth: u32 },
     Closing,
     Closed,
     Space,
     Name,
     EmojiName,
-    Spelling(bool, u32),
+    // Behind so many letters of `pragma`, at the start of an identifier (bare) or behind a number sign.
+    Spelling { bare: bool, spelt: u32 },
     BehindAt,
     BehindDollar,
-    Wire(bool),
+    // In digits and underscores, and whether a digit was met.
+    Wire { any: bool },
     ZeroFirst,
-    Figures(Base, bool),
+    Figures { base: Base, any: bool },
     Pointed(Base),
     Decimals(Base),
     BehindE(Base),
-    Power(Base, bool),
-    Quote(bool, Seen),
-    QuoteClosed(u32),
-    Suffixed(u32),
-    Single(u32),
+    Power { base: Base, any: bool },
+    Quote { escaped: bool, seen: Seen },
+    QuoteClosed { kind: u32 },
+    Suffixed { kind: u32 },
+    Single { kind: u32 },
 }
 
-// One character is eaten (true: the suffix starts at it), or the token has ended (true: its suffix is empty and starts here).
+// How a token ends: whether its suffix starts here, where it is empty, and its kind, as in a state any number.
 #[derive(Clone, Copy)]
-pub enum Act {
-    Eats(bool, Phase),
-    Halts(bool, u32),
-}
-
-// How a token ends at the end of the text.
-#[derive(Clone, Copy)]
-pub struct Ended {
-    pub bare: bool,
+pub struct End {
+    pub suffix: bool,
     pub kind: u32,
 }
 
+// One character is eaten, and whether the suffix starts at it; or the token has ended.
+#[derive(Clone, Copy)]
+pub enum Act {
+    Eats { suffix: bool, phase: Phase },
+    Halts(End),
+}
+
+// What a state looks at: the character that it decides on, the one behind it (NUL stands for the end), and the letters.
+#[derive(Clone, Copy)]
+pub struct Look<'t> {
+    pub here: u32,
+    pub next: u32,
+    pub letters: Letters<'t>,
+}
+
+impl End {
+    // Of a token that is no literal.
+    fn plain(kind: Kind) -> End
+        ensures suffix { result.suffix ≡ false }
+        ensures kind { result.kind ≡ kind_number kind }
+    {
+        End {
+            suffix: false,
+            kind: kind.number(),
+        }
+    }
+
+    // Of a literal that has no suffix so far.
+    fn literal(kind: Kind) -> End
+        ensures suffix { result.suffix ≡ true }
+        ensures kind { result.kind ≡ kind_number kind }
+    {
+        End {
+            suffix: true,
+            kind: kind.number(),
+        }
+    }
+}
+
+impl Act {
+    fn eat(phase: Phase) -> Act
+        ensures { act_of result ≡ eats false (phase_of phase) }
+    {
+        Act::Eats {
+            suffix: false,
+            phase,
+        }
+    }
+
+    fn halt(kind: Kind) -> Act
+        ensures { act_of result ≡ halts false (kind_number kind) }
+    {
+        Act::Halts(End::plain(kind))
+    }
+}
+
 // The state behind the first character of a token.
-pub fn first_phase(c: u32, profile: u32, start: &[u32], more: &[u32], emoji: &[u32]) -> Phase
-    ensures { phase_of result ≡ first (lent start.now more.now emoji.now) profile c }
+#[tactic(auto, unfolding(locality::specs::Phases::first))]
+pub fn first_phase(c: u32, profile: u32, letters: Letters<'_>) -> Phase
+    ensures { phase_of result ≡ first (letters_in letters.entry) profile c }
 {
     if c == 0x2F {
         return Phase::BehindSlash;
@@ -106,14 +153,17 @@ pub fn first_phase(c: u32, profile: u32, start: &[u32], more: &[u32], emoji: &[u
     if is_whitespace(c) {
         return Phase::Space;
     }
-    if is_id_start_in(start, c) {
+    if letters.is_id_start(c) {
         return word_phase(profile, c);
     }
     if is_digit(c) {
         return digit_phase(c);
     }
     if c == 0x23 {
-        return Phase::Spelling(false, 0);
+        return Phase::Spelling {
+            bare: false,
+            spelt: 0,
+        };
     }
     if c == 0x40 {
         return Phase::BehindAt;
@@ -121,157 +171,119 @@ pub fn first_phase(c: u32, profile: u32, start: &[u32], more: &[u32], emoji: &[u
     if c == 0x24 {
         return Phase::BehindDollar;
     }
-    let m = mark_of(c);
-    if m != 0 {
-        return Phase::Single(m);
+    if let Some(mark) = mark_of(c) {
+        return Phase::Single {
+            kind: mark.number(),
+        };
     }
     if c == 0x22 {
-        return Phase::Quote(false, Seen::Bits(false, false));
+        return Phase::Quote {
+            escaped: false,
+            seen: Seen::Bits {
+                twice: false,
+                low: false,
+            },
+        };
     }
-    if is_wide_emoji(emoji, c) {
+    if letters.is_wide_emoji(c) {
         return Phase::EmojiName;
     }
-    Phase::Single(kinds::UNKNOWN)
+    Phase::Single {
+        kind: Kind::Unknown.number(),
+    }
 }
 
-// What is done in a state before x, behind which y stands; NUL stands for the end.
-pub fn decide(q: Phase, x: u32, y: u32, start: &[u32], more: &[u32], emoji: &[u32]) -> Act
-    ensures { act_of result ≡ act_in (lent start.now more.now emoji.now) (phase_of q) (x ∷ y ∷ []) }
+// What is done in a state.
+#[tactic(auto, unfolding(locality::specs::Phases::act, crate::specs::Coded::act_in))]
+pub fn decide(phase: Phase, look: Look<'_>) -> Act
+    ensures { act_of result ≡ act_in (lent_to look.entry) (phase_of phase) (look.entry.here ∷ look.entry.next ∷ []) }
 {
-    match q {
-        Phase::BehindSlash => slash_acts(x),
-        Phase::Line(k) => line_acts(k, x),
-        Phase::Inside(d) => inside_acts(d, x, y),
-        Phase::Into(d) => into_acts(d),
-        Phase::Closing => Act::Eats(false, Phase::Closed),
-        Phase::Closed => Act::Halts(false, kinds::BLOCK_COMMENT),
-        Phase::Space => space_acts(x),
-        Phase::Name => name_acts(x, start, more, emoji),
-        Phase::EmojiName => emoji_acts(x, start, more, emoji),
-        Phase::Spelling(bare, n) => spelling_acts(bare, n, x, start, more, emoji),
-        Phase::BehindAt => at_acts(x, start, more, emoji),
-        Phase::BehindDollar => dollar_acts(x, start, more, emoji),
-        Phase::Wire(any) => wire_acts(any, x),
-        Phase::ZeroFirst => zero_acts(x, y, start, more, emoji),
-        Phase::Figures(base, any) => figure_acts(base, any, x, y, start, more, emoji),
-        Phase::Pointed(base) => pointed_acts(base, x, y, start, more, emoji),
-        Phase::Decimals(base) => decimals_acts(base, x, y, start, more, emoji),
-        Phase::BehindE(base) => behind_e_acts(base, x, y, start, more, emoji),
-        Phase::Power(base, any) => power_acts(base, any, x, y, start, more, emoji),
-        Phase::Quote(escaped, s) => quote_acts(escaped, s, x),
-        Phase::QuoteClosed(k) => suffix_acts(k, x, start, more, emoji),
-        Phase::Suffixed(k) => suffixed_acts(k, x, start, more, emoji),
-        Phase::Single(k) => Act::Halts(false, k),
+    match phase {
+        Phase::BehindSlash => slash_acts(look.here),
+        Phase::Line(line) => line_acts(line, look.here),
+        Phase::Inside { depth } => inside_acts(depth, look.here, look.next),
+        Phase::Into { depth } => into_acts(depth),
+        Phase::Closing => Act::eat(Phase::Closed),
+        Phase::Closed => Act::halt(Kind::BlockComment { terminated: true }),
+        Phase::Space => space_acts(look.here),
+        Phase::Name => name_acts(look),
+        Phase::EmojiName => emoji_acts(look),
+        Phase::Spelling { bare, spelt } => spelling_acts(bare, spelt, look),
+        Phase::BehindAt => at_acts(look),
+        Phase::BehindDollar => dollar_acts(look),
+        Phase::Wire { any } => wire_acts(any, look.here),
+        Phase::ZeroFirst => zero_acts(look),
+        Phase::Figures { base, any } => figure_acts(base, any, look),
+        Phase::Pointed(base) => pointed_acts(base, look),
+        Phase::Decimals(base) => decimals_acts(base, look),
+        Phase::BehindE(base) => behind_e_acts(base, look),
+        Phase::Power { base, any } => power_acts(base, any, look),
+        Phase::Quote { escaped, seen } => quote_acts(escaped, seen, look.here),
+        Phase::QuoteClosed { kind } => suffix_acts(kind, look),
+        Phase::Suffixed { kind } => suffixed_acts(kind, look),
+        Phase::Single { kind } => Act::Halts(End {
+            suffix: false,
+            kind,
+        }),
     }
 }
 
 // What is done at the end of the text: the token ends.
-pub fn decide_end(q: Phase) -> Ended
-    ensures { EndsWith (phase_of q) result.bare result.kind }
+#[tactic(auto, unfolding(locality::specs::Phases::act, lexer::specs::Cut::is_unit, cutters::specs::Digits::is_digit))]
+pub fn decide_end(phase: Phase) -> End
+    ensures { EndsWith (phase_of phase) result.suffix result.kind }
 {
-    match q {
-        Phase::BehindSlash => Ended {
-            bare: false,
-            kind: kinds::SLASH,
-        },
-        Phase::Line(k) => Ended {
-            bare: false,
-            kind: line_kind(k),
-        },
-        Phase::Inside(_) => Ended {
-            bare: false,
-            kind: kinds::UNCLOSED_COMMENT,
-        },
-        Phase::Into(_) => Ended {
-            bare: false,
-            kind: kinds::UNCLOSED_COMMENT,
-        },
-        Phase::Closing => Ended {
-            bare: false,
-            kind: kinds::UNCLOSED_COMMENT,
-        },
-        Phase::Closed => Ended {
-            bare: false,
-            kind: kinds::BLOCK_COMMENT,
-        },
-        Phase::Space => Ended {
-            bare: false,
-            kind: kinds::WHITESPACE,
-        },
-        Phase::Name => Ended {
-            bare: false,
-            kind: kinds::IDENT,
-        },
-        Phase::EmojiName => Ended {
-            bare: false,
-            kind: kinds::INVALID_IDENT,
-        },
-        Phase::Spelling(bare, _) => Ended {
-            bare: false,
-            kind: word_kind(bare),
-        },
-        Phase::BehindAt => Ended {
-            bare: false,
-            kind: kinds::AT,
-        },
-        Phase::BehindDollar => Ended {
-            bare: false,
-            kind: kinds::DOLLAR,
-        },
-        Phase::Wire(any) => Ended {
-            bare: false,
-            kind: wire_kind(any),
-        },
-        Phase::ZeroFirst => Ended {
-            bare: true,
-            kind: 44,
-        },
-        Phase::Figures(base, any) => Ended {
-            bare: true,
-            kind: int_kind(base, !any),
-        },
-        Phase::Pointed(base) => Ended {
-            bare: true,
-            kind: float_kind(base, false),
-        },
-        Phase::Decimals(base) => Ended {
-            bare: true,
-            kind: float_kind(base, false),
-        },
-        Phase::BehindE(base) => Ended {
-            bare: true,
-            kind: float_kind(base, true),
-        },
-        Phase::Power(base, any) => Ended {
-            bare: true,
-            kind: float_kind(base, !any),
-        },
-        Phase::Quote(_, s) => Ended {
-            bare: true,
-            kind: seen_kind(false, s),
-        },
-        Phase::QuoteClosed(k) => Ended {
-            bare: true,
-            kind: k,
-        },
-        Phase::Suffixed(k) => Ended {
-            bare: false,
-            kind: k,
-        },
-        Phase::Single(k) => Ended {
-            bare: false,
-            kind: k,
+    match phase {
+        Phase::BehindSlash => End::plain(Kind::Slash),
+        Phase::Line(line) => End::plain(line.kind()),
+        Phase::Inside { .. } | Phase::Into { .. } | Phase::Closing => {
+            End::plain(Kind::BlockComment { terminated: false })
+        }
+        Phase::Closed => End::plain(Kind::BlockComment { terminated: true }),
+        Phase::Space => End::plain(Kind::Whitespace),
+        Phase::Name => End::plain(Kind::Ident),
+        Phase::EmojiName => End::plain(Kind::InvalidIdent),
+        Phase::Spelling { bare, .. } => End::plain(word_kind(bare)),
+        Phase::BehindAt => End::plain(Kind::At),
+        Phase::BehindDollar => End::plain(Kind::Dollar),
+        Phase::Wire { any } => End::plain(wire_kind(any)),
+        Phase::ZeroFirst => End::literal(Kind::Int {
+            base: Base::Decimal,
+            empty_int: false,
+        }),
+        Phase::Figures { base, any } => End::literal(Kind::Int {
+            base,
+            empty_int: !any,
+        }),
+        Phase::Pointed(base) | Phase::Decimals(base) => End::literal(Kind::Float {
+            base,
+            empty_exponent: false,
+        }),
+        Phase::BehindE(base) => End::literal(Kind::Float {
+            base,
+            empty_exponent: true,
+        }),
+        Phase::Power { base, any } => End::literal(Kind::Float {
+            base,
+            empty_exponent: !any,
+        }),
+        Phase::Quote { seen, .. } => End::literal(seen_kind(false, seen)),
+        Phase::QuoteClosed { kind } => End { suffix: true, kind },
+        Phase::Suffixed { kind } | Phase::Single { kind } => End {
+            suffix: false,
+            kind,
         },
     }
 }
 
-// How deep in comments a state is.
-pub fn depth_of(q: Phase) -> u32
-    ensures { result ≡ depth_of (phase_of q) }
-{
-    match q {
-        Phase::Inside(d) => d,
-        Phase::Into(d) => d,
-        _ => 0,
+impl Phase {
+    // How deep in comments a state is.
+    pub fn depth(self) -> u32
+        ensures { result ≡ depth_of (phase_of self) }
+    {
+        match self {
+            Phase::Inside { depth } | Phase::Into { depth } => depth,
+            _ => 0,
+        }
     }
 }

@@ -1,5 +1,8 @@
 // Comments, white space, and what goes to the end of its line.
-ghost use Rattle.std.specs.Prelude.{◌≡◌, [], ◌∷◌, false, cond, ◌<◌, ltb};
+#![tactic(auto, unfolding(locality::specs::Phases::act))]
+
+ghost use Rattle.std.specs.Prelude.{◌≡◌, [], ◌∷◌, false, cond, ltb};
+ghost use Rattle.cutters.specs.Numbers.{kind_number};
 ghost use Rattle.lexer.specs.Cut.{opens, closes};
 ghost use Rattle.lexer.specs.Unicode.{unicode};
 ghost use Rattle.locality.specs.Machine.{eats, halts};
@@ -7,107 +10,92 @@ ghost use Rattle.locality.specs.Phases.{behind_slash, inside, space, line_kind, 
 ghost use Rattle.phases.specs.Coded.{line_of, act_of, deepest};
 
 use crate::{Act, Line, Phase};
-use letters::is_whitespace;
-use lexer::{kinds, not_lf};
+use cutters::Kind;
+use lexer::{is_whitespace, not_lf};
 
-pub fn line_kind(k: Line) -> u32
-    ensures { result ≡ line_kind (line_of k) }
-{
-    match k {
-        Line::Comment => kinds::LINE_COMMENT,
-        Line::Pragma => kinds::PRAGMA,
-        Line::Annotation => kinds::ANNOTATION,
+impl Line {
+    pub fn kind(self) -> Kind
+        ensures { kind_number result ≡ line_kind (line_of self) }
+    {
+        match self {
+            Line::Comment => Kind::LineComment,
+            Line::Pragma => Kind::Pragma,
+            Line::Annotation => Kind::Annotation,
+        }
     }
 }
 
-pub fn line_acts(k: Line, x: u32) -> Act
-    ensures { act_of result ≡ line_acts (line_of k) (x ∷ []) }
+pub fn line_acts(line: Line, x: u32) -> Act
+    ensures { act_of result ≡ line_acts (line_of line) (x ∷ []) }
 {
     if not_lf(x) {
-        return Act::Eats(false, Phase::Line(k));
+        return Act::eat(Phase::Line(line));
     }
-    Act::Halts(false, line_kind(k))
+    Act::halt(line.kind())
 }
 
 pub fn slash_acts(x: u32) -> Act
     ensures { act_of result ≡ act unicode behind_slash (x ∷ []) }
 {
-    if x == 0x2F {
-        return Act::Eats(false, Phase::Line(Line::Comment));
+    match x {
+        0x2F => Act::eat(Phase::Line(Line::Comment)),
+        0x2A => Act::eat(Phase::Inside { depth: 1 }),
+        _ => Act::halt(Kind::Slash),
     }
-    if x == 0x2A {
-        return Act::Eats(false, Phase::Inside(1));
-    }
-    Act::Halts(false, kinds::SLASH)
 }
 
 pub fn space_acts(x: u32) -> Act
     ensures { act_of result ≡ act unicode space (x ∷ []) }
 {
     if is_whitespace(x) {
-        return Act::Eats(false, Phase::Space);
+        return Act::eat(Phase::Space);
     }
-    Act::Halts(false, kinds::WHITESPACE)
+    Act::halt(Kind::Whitespace)
 }
-
-// As deep as a comment can be told to be: no text gets there.
-const DEEPEST: u32 = 4294967295;
 
 fn is_open(x: u32, y: u32) -> bool
     ensures { result ≡ opens x y }
 {
-    if x == 0x2F {
-        return y == 0x2A;
-    }
-    false
+    x == 0x2F && y == 0x2A
 }
 
 fn is_close(x: u32, y: u32) -> bool
     ensures { result ≡ closes x y }
 {
-    if x == 0x2A {
-        return y == 0x2F;
-    }
-    false
+    x == 0x2A && y == 0x2F
 }
 
-fn closing_acts(d: u32) -> Act
-    ensures { act_of result ≡ closing_acts d }
+fn closing_acts(depth: u32) -> Act
+    ensures { act_of result ≡ closing_acts depth }
 {
-    if d <= 1 {
-        return Act::Eats(false, Phase::Closing);
+    if depth <= 1 {
+        return Act::eat(Phase::Closing);
     }
-    Act::Eats(false, Phase::Into(d - 1))
+    Act::eat(Phase::Into { depth: depth - 1 })
 }
 
-fn nested_acts(d: u32, x: u32, y: u32) -> Act
-    requires { d < deepest }
-    ensures { act_of result ≡ inside_acts d (x ∷ y ∷ []) }
+// A comment can be told to be as deep as an integer says: no text gets there, and the token ends with the kind that none has.
+pub fn inside_acts(depth: u32, x: u32, y: u32) -> Act
+    ensures { act_of result ≡ cond (ltb depth deepest) (inside_acts depth (x ∷ y ∷ [])) (halts false 0) }
 {
+    let Some(deeper) = depth.checked_add(1) else {
+        return Act::halt(Kind::Eof);
+    };
     if is_open(x, y) {
-        return Act::Eats(false, Phase::Into(d + 1));
+        return Act::eat(Phase::Into { depth: deeper });
     }
     if is_close(x, y) {
-        return closing_acts(d);
+        return closing_acts(depth);
     }
-    Act::Eats(false, Phase::Inside(d))
-}
-
-pub fn inside_acts(d: u32, x: u32, y: u32) -> Act
-    ensures { act_of result ≡ cond (ltb d deepest) (inside_acts d (x ∷ y ∷ [])) (halts false 0) }
-{
-    if DEEPEST <= d {
-        return Act::Halts(false, 0);
-    }
-    nested_acts(d, x, y)
+    Act::eat(Phase::Inside { depth })
 }
 
 // Between the two characters that open or close a comment.
-pub fn into_acts(d: u32) -> Act
-    ensures { act_of result ≡ cond (ltb d deepest) (eats false (inside d)) (halts false 0) }
+pub fn into_acts(depth: u32) -> Act
+    ensures { act_of result ≡ cond (ltb depth deepest) (eats false (inside depth)) (halts false 0) }
 {
-    if DEEPEST <= d {
-        return Act::Halts(false, 0);
+    if depth == u32::MAX {
+        return Act::halt(Kind::Eof);
     }
-    Act::Eats(false, Phase::Inside(d))
+    Act::eat(Phase::Inside { depth })
 }

@@ -1,134 +1,131 @@
 // Identifiers, pragmas, annotations and hardware identifiers.
+#![tactic(auto, unfolding(locality::specs::Phases::act))]
+
 ghost use Rattle.std.specs.Prelude.{◌≡◌, true, cond, ◌&&◌, [], ◌∷◌, suc, eqb, leb};
 ghost use Rattle.cutters.specs.Kinds.{ident, invalid_ident, hardware_ident, dollar};
-ghost use Rattle.lexer.specs.Unicode.{lent};
+ghost use Rattle.cutters.specs.Numbers.{kind_number};
 ghost use Rattle.locality.specs.Phases.{line, of_pragma, name, emoji_name, spelling, behind_at, behind_dollar, letter, name_acts, wire_acts, act};
-ghost use Rattle.phases.specs.Coded.{phase_of, act_of};
+ghost use Rattle.phases.specs.Coded.{phase_of, act_of, lent_to};
 
 use crate::lines::line_acts;
-use crate::tests::{is_digit_or_underscore, met_digit};
-use crate::{Act, Line, Phase};
-use lexer::{goes_on, is_id_start_in, is_wide_emoji, kinds};
-use ucd::is_xid_continue_in;
-
-fn opens_pragma(profile: u32, c: u32) -> bool
-    ensures { result ≡ (eqb profile 1 && eqb c 0x70) }
-{
-    if profile == 1 {
-        return c == 0x70;
-    }
-    false
-}
+use crate::tests::{is_figure_or_underscore, met_figure};
+use crate::{Act, Line, Look, Phase};
+use cutters::{Base, Kind};
 
 // Behind c, which begins an identifier.
 pub fn word_phase(profile: u32, c: u32) -> Phase
     ensures { phase_of result ≡ cond (eqb profile 1 && eqb c 0x70) (spelling true 1) name }
 {
-    if opens_pragma(profile, c) {
-        return Phase::Spelling(true, 1);
+    if profile == 1 && c == 0x70 {
+        return Phase::Spelling {
+            bare: true,
+            spelt: 1,
+        };
     }
     Phase::Name
 }
 
-pub fn name_acts(x: u32, start: &[u32], more: &[u32], emoji: &[u32]) -> Act
-    ensures { act_of result ≡ name_acts (lent start.now more.now emoji.now) (x ∷ []) }
+pub fn name_acts(look: Look<'_>) -> Act
+    ensures { act_of result ≡ name_acts (lent_to look.entry) (look.entry.here ∷ []) }
 {
-    if is_xid_continue_in(more, x) {
-        return Act::Eats(false, Phase::Name);
+    if look.letters.is_id_continue(look.here) {
+        return Act::eat(Phase::Name);
     }
-    if is_wide_emoji(emoji, x) {
-        return Act::Eats(false, Phase::EmojiName);
+    if look.letters.is_wide_emoji(look.here) {
+        return Act::eat(Phase::EmojiName);
     }
-    Act::Halts(false, kinds::IDENT)
+    Act::halt(Kind::Ident)
 }
 
-pub fn emoji_acts(x: u32, start: &[u32], more: &[u32], emoji: &[u32]) -> Act
-    ensures { act_of result ≡ act (lent start.now more.now emoji.now) emoji_name (x ∷ []) }
+pub fn emoji_acts(look: Look<'_>) -> Act
+    ensures { act_of result ≡ act (lent_to look.entry) emoji_name (look.entry.here ∷ []) }
 {
-    if goes_on(more, emoji, x) {
-        return Act::Eats(false, Phase::EmojiName);
+    if look.letters.goes_on(look.here) {
+        return Act::eat(Phase::EmojiName);
     }
-    Act::Halts(false, kinds::INVALID_IDENT)
+    Act::halt(Kind::InvalidIdent)
 }
 
-// The letter of `pragma` behind so many.
-fn letter_behind(n: u32) -> u32
-    ensures { result ≡ letter n }
+const PRAGMA: &[u8; 6] = b"pragma";
+
+// Its letter behind so many.
+fn letter_behind(spelt: u32) -> u32
+    ensures { result ≡ letter spelt }
 {
-    match n {
-        0 => 0x70,
-        1 => 0x72,
-        3 => 0x67,
-        4 => 0x6D,
-        _ => 0x61,
-    }
+    PRAGMA.get(spelt as usize).map_or(0x61, |c| u32::from(*c))
 }
 
 // One letter more: the sixth makes a pragma of the line.
-fn spelt(bare: bool, n: u32) -> Phase
-    ensures { phase_of result ≡ cond (leb 5 n) (line of_pragma) (spelling bare (suc n)) }
+fn spelt_on(bare: bool, spelt: u32) -> Phase
+    ensures { phase_of result ≡ cond (leb 5 spelt) (line of_pragma) (spelling bare (suc spelt)) }
 {
-    if 5 <= n {
+    if PRAGMA.len() as u32 - 1 <= spelt {
         return Phase::Line(Line::Pragma);
     }
-    Phase::Spelling(bare, n + 1)
+    Phase::Spelling {
+        bare,
+        spelt: spelt + 1,
+    }
 }
 
 // The kind of a word that is no pragma: at its own start, or behind a number sign.
-pub fn word_kind(bare: bool) -> u32
-    ensures { result ≡ cond bare ident invalid_ident }
+pub fn word_kind(bare: bool) -> Kind
+    ensures { kind_number result ≡ cond bare ident invalid_ident }
 {
     if bare {
-        return kinds::IDENT;
+        Kind::Ident
+    } else {
+        Kind::InvalidIdent
     }
-    kinds::INVALID_IDENT
 }
 
-pub fn spelling_acts(bare: bool, n: u32, x: u32, start: &[u32], more: &[u32], emoji: &[u32]) -> Act
-    ensures { act_of result ≡ act (lent start.now more.now emoji.now) (spelling bare n) (x ∷ []) }
+pub fn spelling_acts(bare: bool, spelt: u32, look: Look<'_>) -> Act
+    ensures { act_of result ≡ act (lent_to look.entry) (spelling bare spelt) (look.entry.here ∷ []) }
 {
-    let w = letter_behind(n);
-    if x == w {
-        return Act::Eats(false, spelt(bare, n));
+    if look.here == letter_behind(spelt) {
+        return Act::eat(spelt_on(bare, spelt));
     }
     if bare {
-        return name_acts(x, start, more, emoji);
+        return name_acts(look);
     }
-    Act::Halts(false, kinds::INVALID_IDENT)
+    Act::halt(Kind::InvalidIdent)
 }
 
-pub fn at_acts(x: u32, start: &[u32], more: &[u32], emoji: &[u32]) -> Act
-    ensures { act_of result ≡ act (lent start.now more.now emoji.now) behind_at (x ∷ []) }
+pub fn at_acts(look: Look<'_>) -> Act
+    ensures { act_of result ≡ act (lent_to look.entry) behind_at (look.entry.here ∷ []) }
 {
-    if is_id_start_in(start, x) {
-        return line_acts(Line::Annotation, x);
+    if look.letters.is_id_start(look.here) {
+        return line_acts(Line::Annotation, look.here);
     }
-    Act::Halts(false, kinds::AT)
+    Act::halt(Kind::At)
 }
 
-pub fn wire_kind(any: bool) -> u32
-    ensures { result ≡ cond any hardware_ident dollar }
+pub fn wire_kind(any: bool) -> Kind
+    ensures { kind_number result ≡ cond any hardware_ident dollar }
 {
     if any {
-        return kinds::HARDWARE_IDENT;
+        Kind::HardwareIdent
+    } else {
+        Kind::Dollar
     }
-    kinds::DOLLAR
 }
 
 pub fn wire_acts(any: bool, x: u32) -> Act
     ensures { act_of result ≡ wire_acts any (x ∷ []) }
 {
-    if is_digit_or_underscore(x) {
-        return Act::Eats(false, Phase::Wire(met_digit(any, x)));
+    if is_figure_or_underscore(Base::Decimal, x) {
+        return Act::eat(Phase::Wire {
+            any: met_figure(Base::Decimal, any, x),
+        });
     }
-    Act::Halts(false, wire_kind(any))
+    Act::halt(wire_kind(any))
 }
 
-pub fn dollar_acts(x: u32, start: &[u32], more: &[u32], emoji: &[u32]) -> Act
-    ensures { act_of result ≡ act (lent start.now more.now emoji.now) behind_dollar (x ∷ []) }
+pub fn dollar_acts(look: Look<'_>) -> Act
+    ensures { act_of result ≡ act (lent_to look.entry) behind_dollar (look.entry.here ∷ []) }
 {
-    if is_wide_emoji(emoji, x) {
-        return Act::Eats(false, Phase::EmojiName);
+    if look.letters.is_wide_emoji(look.here) {
+        return Act::eat(Phase::EmojiName);
     }
-    wire_acts(false, x)
+    wire_acts(false, look.here)
 }

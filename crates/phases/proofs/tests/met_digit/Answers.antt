@@ -1,9 +1,0 @@
-use Rattle.lexer.proofs.Flags.{flags}
-use borrow.Author.Rules.{rules}
-use Rattle.phases.proofs.tests.met_digit.Goals as goal
-
-pub returns-then-any : goal.returns-then-any
-returns-then-any c = search (rules, flags)
-
-pub returns : goal.returns
-returns c = search (rules, flags)
