@@ -1,121 +1,56 @@
 // The tasks on keys.
-use crate::output::{UNREADABLE, print, print_answer, print_hex, unreadable};
-use crate::tasks::{has_room, lent, shown};
-use crate::words;
-use crate::words::{Asked, Text, part};
+use crate::output::{Fault, Hex, Result, print_answer};
+use crate::words::{TEXT, Text, Words, bytes, number};
 use renewal::renewal_key;
-use std::io;
-use text::Answer;
 
 // The most bytes of a key, eleven for each byte of the longest text.
 const KEY: usize = 360448;
 
 type Key = [u8; KEY];
 
-// Lends as much as the task asks.
-fn call_in(task: usize, text: &[u8], asked: Asked, key: &mut [u8]) -> Answer {
-    let k = lent(task, asked, key.len());
-    if key.len() < k {
-        return unreadable();
-    }
-    renewal_key(text, asked.first, &mut key[0..k])
+// The key of the text that a word writes.
+fn make<'a>(word: &[u8], profile: u32, room: &mut Text, key: &'a mut Key) -> Result<&'a [u8]> {
+    let text = bytes(word, room)?;
+    let n = renewal_key(text, profile, key)?;
+    Ok(&key[..n.min(KEY)])
 }
 
-// Whether bytes are shown, if only a hyphen for none.
-fn shows(task: usize, given: Answer) -> bool {
-    if given.number == UNREADABLE {
-        return false;
-    }
-    if has_room(task) {
-        return true;
-    }
-    given.number == text::DONE
-}
-
-// key and keyroom: what `renewal_key` answers, and the bytes.
-fn answer_in(
-    rt: &impl Print,
-    task: usize,
-    text: &[u8],
-    asked: Asked,
-    key: &mut Key,
-) -> io::Result<()> {
-    let given = call_in(task, text, asked, key);
-    print_answer(rt, given)?;
-    if shows(task, given) {
-        print_hex(rt, part(key, shown(task, asked, given)))?;
-    }
+// key PROFILE HEX: what `renewal_key` answers, and the bytes.
+pub fn key(rt: &impl Print, mut words: Words<'_>) -> Result<()> {
+    let mut room = [0u8; TEXT];
+    let mut key = [0u8; KEY];
+    let profile = number(words.word())?;
+    let bytes = make(words.rest(), profile, &mut room, &mut key)?;
+    let n = bytes.len();
+    let hex = Hex(bytes);
+    print!(rt; "0 {n} {hex}")?;
     Ok(())
 }
 
-pub fn answer(rt: &impl Print, task: usize, text: &[u8], asked: Asked) -> io::Result<()> {
+// keyroom PROFILE BYTES HEX: what it answers where it is lent so many bytes, with A5 in each, and all of them after the call, so that what it
+// doesn't write is seen.
+pub fn key_room(rt: &impl Print, mut words: Words<'_>) -> Result<()> {
+    let mut room = [0u8; TEXT];
     let mut key = [0xA5u8; KEY];
-    answer_in(rt, task, text, asked, &mut key)
+    let profile = number(words.word())?;
+    let n = number(words.word())? as usize;
+    let text = bytes(words.rest(), &mut room)?;
+    let lent = key.get_mut(..n).ok_or(Fault::Unreadable)?;
+    print_answer(rt, renewal_key(text, profile, lent))?;
+    let hex = Hex(lent);
+    print!(rt; " {hex}")?;
+    Ok(())
 }
 
-// Makes the key of the text that a word writes.
-fn make(word: &[u8], profile: u32, room: &mut Text, key: &mut Key) -> Answer {
-    let bytes = words::hex(word, room);
-    if !bytes.right {
-        return unreadable();
-    }
-    renewal_key(part(room, bytes.count), profile, key)
-}
-
-// Whether two keys are the same, 1 or 0, or what refuses the first text that has none.
-fn verdict(a: Answer, b: Answer, same: bool) -> Answer {
-    if a.number != text::DONE {
-        return a;
-    }
-    if b.number != text::DONE {
-        return b;
-    }
-    Answer {
-        number: text::DONE,
-        also: same as u64,
-    }
-}
-
-// Makes the keys of the two texts, and compares them.
-fn compare(
-    texts: &[u8],
-    profile: u32,
-    room: &mut Text,
-    before: &mut Key,
-    after: &mut Key,
-) -> Answer {
-    let a = make(words::first(texts), profile, room, before);
-    let b = make(words::rest(texts), profile, room, after);
-    let same = words::same(part(before, a.also as usize), part(after, b.also as usize));
-    verdict(a, b, same)
-}
-
-fn compare_words(words: &[u8]) -> Answer {
-    let profile = words::decimal(words::first(words));
-    if !profile.right {
-        return unreadable();
-    }
-    let mut room = [0u8; words::TEXT];
-    let mut before = [0u8; KEY];
-    let mut after = [0u8; KEY];
-    compare(
-        words::rest(words),
-        profile.value,
-        &mut room,
-        &mut before,
-        &mut after,
-    )
-}
-
-// pair: whether two texts share a key.
-pub fn pair(rt: &impl Print, words: &[u8]) -> io::Result<()> {
-    let given = compare_words(words);
-    if given.number != text::DONE {
-        return print_answer(rt, given);
-    }
-    if given.also == 1 {
-        print(rt, b"same")
-    } else {
-        print(rt, b"differ")
-    }
+// pair PROFILE HEX HEX: whether two texts share a key, or what refuses the first text that has none.
+pub fn pair(rt: &impl Print, mut words: Words<'_>) -> Result<()> {
+    let mut room = [0u8; TEXT];
+    let mut old = [0u8; KEY];
+    let mut new = [0u8; KEY];
+    let profile = number(words.word())?;
+    let old = make(words.word(), profile, &mut room, &mut old)?;
+    let new = make(words.rest(), profile, &mut room, &mut new)?;
+    let verdict = if old == new { "same" } else { "differ" };
+    print!(rt; "{verdict}")?;
+    Ok(())
 }

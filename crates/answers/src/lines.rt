@@ -1,73 +1,74 @@
-// Standard input cut into lines. `have` is how many bytes of the line have been read, or one more than its buffer holds if it is
-// too long.
-ghost use Rattle.std.specs.Prelude.{◌≤◌};
-
+// Standard input cut into lines.
 use crate::tasks::answer_line;
 use std::io;
 use std::io::Read;
 
 // The most bytes of a line that is answered.
-pub const LINE: usize = 65536;
+const LINE: usize = 65536;
 
-pub type Buffer = [u8; LINE];
-
-// Takes the next byte: keeps it, answers the line that it ends, or notes that the line is too long.
-fn take(rt: &impl Print, b: u8, line: &mut Buffer, have: usize) -> io::Result<usize> {
-    if b == b'\n' {
-        answer_line(rt, line, have)?;
-        return Ok(0);
-    }
-    if have < LINE {
-        line[have] = b;
-        return Ok(have + 1);
-    }
-    Ok(LINE + 1)
+// A line that is being read: how long it is by now, and its first bytes.
+#[derive(Drop)]
+pub struct Line {
+    bytes: [u8; LINE],
+    len: usize,
 }
 
-// Goes through what was read, the first `got` bytes.
-fn pass(
-    rt: &impl Print,
-    input: &Buffer,
-    got: usize,
-    line: &mut Buffer,
-    have: usize,
-) -> io::Result<usize>
-    requires { got ≤ 65536 }
-{
-    let mut now = have;
-    let mut i = 0;
-    while i < got {
-        now = take(rt, input[i], line, now)?;
-        i += 1;
-    }
-    Ok(now)
-}
-
-// Goes through the input, and answers how much of a last line is left. A proved loop has to end, and nothing says that the input
-// does. So the loop counts its turns down, from a number that no run uses up.
-pub fn run<P: Print, R: Read>(
-    rt: &P,
-    source: &mut R,
-    input: &mut Buffer,
-    line: &mut Buffer,
-) -> io::Result<usize> {
-    let mut have = 0;
-    let mut turns = u64::MAX;
-    while 0 < turns {
-        let got = source.read(input)?;
-        if got == 0 {
-            return Ok(have);
+impl Line {
+    pub fn new() -> Line {
+        Line {
+            bytes: [0; LINE],
+            len: 0,
         }
-        have = pass(rt, input, got, line, have)?;
-        turns -= 1;
     }
-    Ok(have)
+
+    // As much of it as there is room for.
+    pub fn bytes(&self) -> &[u8] {
+        &self.bytes[..self.len.min(LINE)]
+    }
+
+    pub fn is_too_long(&self) -> bool {
+        LINE < self.len
+    }
+
+    fn push(&mut self, b: u8) {
+        if self.len < LINE {
+            self.bytes[self.len] = b;
+        }
+        self.len = self.len.saturating_add(1);
+    }
+
+    // Takes the next byte, and answers the line that it ends.
+    fn take(&mut self, rt: &impl Print, b: u8) -> io::Result<()> {
+        if b != b'\n' {
+            self.push(b);
+            return Ok(());
+        }
+        answer_line(rt, self)?;
+        self.len = 0;
+        Ok(())
+    }
+
+    // Answers a last line that no LF ends.
+    fn finish(&self, rt: &impl Print) -> io::Result<()> {
+        if 0 < self.len {
+            answer_line(rt, self)?;
+        }
+        Ok(())
+    }
 }
 
-// Answers a last line that no LF ends.
-pub fn finish(rt: &impl Print, line: &Buffer, have: usize) -> io::Result<()> {
-    if 0 < have {
-        answer_line(rt, line, have)?;
+// Answers each line of the input. A proved loop has to end, and nothing says that the input does: no run uses up these turns.
+pub fn run<P: Print, R: Read>(rt: &P, source: &mut R) -> io::Result<()> {
+    let mut line = Line::new();
+    let mut input = [0u8; LINE];
+    for _ in 0..u64::MAX {
+        let got = source.read(&mut input)?;
+        if got == 0 {
+            break;
+        }
+        for b in &input[..got] {
+            line.take(rt, *b)?;
+        }
     }
-    Ok(())
+    line.finish(rt)
 }

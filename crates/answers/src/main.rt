@@ -15,8 +15,5 @@ mod words;
 use std::io;
 
 fn main(rt: HostRuntime) -> io::Result<()> {
-    let mut input = [0u8; lines::LINE];
-    let mut line = [0u8; lines::LINE];
-    let have = lines::run(&rt, &mut rt.reader(), &mut input, &mut line)?;
-    lines::finish(&rt, &line, have)
+    lines::run(&rt, &mut rt.reader())
 }

@@ -1,22 +1,19 @@
 // The tasks on tokens and items: lists of words, `RECORD` for a token and `ITEM` for an item, and rows of records.
-ghost use Rattle.std.specs.Prelude.{◌≤◌};
+ghost use Rattle.std.specs.Prelude.{◌<◌};
 
-use crate::output::{print_answer, print_word, print_words, refuse, unreadable};
-use crate::tasks::{has_room, lent, shown};
-use crate::words::Asked;
-use crate::{tasks, words};
+use crate::output::{Fault, Result, print_answer, print_records};
+use crate::words::{TEXT, Words, bytes, number};
 use cutters::RECORD;
-use rows::{Row, Token, rows_of};
+use rows::{Token, tokenize_rows};
 use std::io;
-use text::Answer;
+use std::ops::Range;
+use text::Refusal;
 
 // How many words an item has.
-const ITEM: usize = 3;
+pub const ITEM: usize = 3;
 
 // The most words of a list: a token's for each byte of the longest text. An item has no more words than a token.
-pub const LIST: usize = RECORD * words::TEXT;
-
-pub type List = [u32; LIST];
+pub const LIST: usize = RECORD * TEXT;
 
 // The most records of a row.
 const ROW: usize = 64;
@@ -24,181 +21,106 @@ const ROW: usize = 64;
 // What stands in a word before the call.
 pub const BLANK: u32 = 0xA5A5A5A5;
 
-// Strings and bit strings, closed or not, are the kinds from 56 to 61. The closed ones are odd.
-const FIRST_STR: u32 = 56;
-
-const LAST_STR: u32 = 61;
-
-fn wide(word: u32) -> usize
-    ensures { result ≤ 4294967295 }
-{
-    word as usize
-}
-
-// A part of the text, if there is one.
-#[derive(Clone, Copy)]
-struct Part {
-    right: bool,
-    from: usize,
-    to: usize,
-}
-
-const NO_PART: Part = Part {
-    right: false,
-    from: 0,
-    to: 0,
-};
-
-// The body of a string that starts there: behind its quote, and before the one that closes it.
-fn body_at(kind: u32, start: usize, suffix: usize) -> Part
-    requires { (start ≤ 4294967295) × (suffix ≤ 4294967295) }
-{
-    if kind < FIRST_STR {
-        return NO_PART;
-    }
-    if LAST_STR < kind {
-        return NO_PART;
-    }
-    if suffix == 0 {
-        return NO_PART;
-    }
-    Part {
-        right: true,
-        from: start + 1,
-        to: start + suffix - (kind % 2) as usize,
-    }
-}
-
-// The body of a token, of those that a list has after `tokenize`.
-fn token_body(list: &[u32], cut: Answer, index: usize) -> Part
-    requires { index ≤ 4294967295 }
-{
-    if cut.number != text::DONE {
-        return NO_PART;
-    }
-    if cut.also <= index as u64 {
-        return NO_PART;
-    }
-    if list.len() / RECORD <= index {
-        return NO_PART;
-    }
-    body_at(
-        list[RECORD * index],
-        wide(list[RECORD * index + 3]),
-        wide(list[RECORD * index + 2]),
-    )
-}
-
-// The answer where there is none.
-fn no_body(cut: Answer) -> Answer {
-    if cut.number == text::DONE {
-        unreadable()
-    } else {
-        cut
-    }
-}
-
-// body: the items of the body of a token.
-fn body(text: &[u8], asked: Asked, list: &mut [u32]) -> Answer {
-    let cut = listing::tokenize(text, asked.first, list);
-    let part = token_body(list, cut, asked.second as usize);
-    if !part.right {
-        return no_body(cut);
-    }
-    unescape::unescape_part(text, part.from, part.to, asked.third, list)
-}
-
-// tok and tokroom: the tokens. unescape and itemroom: the items.
-fn call(task: usize, text: &[u8], asked: Asked, list: &mut [u32]) -> Answer {
-    match task {
-        tasks::TOK | tasks::TOKROOM => listing::tokenize(text, asked.first, list),
-        tasks::BODY => body(text, asked, list),
-        _ => unescape::unescape_literal(text, asked.first, list),
-    }
-}
-
-// Lends as much as the task asks.
-fn call_in(task: usize, text: &[u8], asked: Asked, list: &mut [u32]) -> Answer {
-    let k = lent(task, asked, list.len());
-    if list.len() < k {
-        return unreadable();
-    }
-    call(task, text, asked, &mut list[0..k])
-}
-
-// How many words are shown as one: those of a record, or, where all of the memory is shown, each by itself.
-fn width_of(task: usize) -> usize
-    ensures { 1 ≤ result }
-{
-    if has_room(task) {
-        return 1;
-    }
-    if task == tasks::TOK {
-        return RECORD;
-    }
-    ITEM
-}
-
-fn answer_in(
+// tok PROFILE HEX, unescape MODE HEX: what a call answers, and the records that it lists, so many words each.
+pub fn listed<F: Fn(&[u8], u32, &mut [u32]) -> std::result::Result<usize, Refusal>>(
     rt: &impl Print,
-    task: usize,
-    text: &[u8],
-    asked: Asked,
-    list: &mut List,
-) -> io::Result<()> {
-    let given = call_in(task, text, asked, list);
-    print_answer(rt, given)?;
-    print_words(
-        rt,
-        list,
-        shown(task, asked, given),
-        width_of(task),
-        b" ",
-        b",",
-    )
-}
-
-pub fn answer(rt: &impl Print, task: usize, text: &[u8], asked: Asked) -> io::Result<()> {
+    mut words: Words<'_>,
+    width: usize,
+    call: F,
+) -> Result<()>
+    requires can { F.IsAlwaysCallable call }
+    requires wide { 0 < width }
+{
+    let mut room = [0u8; TEXT];
     let mut list = [BLANK; LIST];
-    answer_in(rt, task, text, asked, &mut list)
-}
-
-fn print_record(rt: &impl Print, t: Token) -> io::Result<()> {
-    print_word(rt, b" ", t.kind)?;
-    print_word(rt, b" ", t.len)?;
-    print_word(rt, b" ", t.suffix)?;
-    print_word(rt, b" ", t.start)?;
-    print_word(rt, b" ", t.misplaced)
-}
-
-fn print_row(rt: &impl Print, row: Row, n: usize) -> io::Result<()> {
-    let mut i = 0;
-    while i < ROW {
-        if n <= i {
-            return Ok(());
-        }
-        let t = row[i];
-        print_record(rt, t)?;
-        i += 1;
-    }
+    let selector = number(words.word())?;
+    let text = bytes(words.rest(), &mut room)?;
+    let n = call(text, selector, &mut list)?;
+    print!(rt; "0 {n}")?;
+    print_records(rt, &list, width, n, " ", ",")?;
     Ok(())
 }
 
-// rowroom: what `tokenize_rows` answers, and the row after it.
-pub fn rowroom(rt: &impl Print, text: &[u8], asked: Asked) -> io::Result<()> {
-    let n = asked.second as usize;
-    if ROW < n {
-        return refuse(rt);
+// tokroom PROFILE WORDS HEX, itemroom MODE WORDS HEX: what a call answers where it is lent so many words, with A5 in each byte, and all of them
+// after the call, so that what it doesn't write is seen.
+pub fn room<F: Fn(&[u8], u32, &mut [u32]) -> std::result::Result<usize, Refusal>>(
+    rt: &impl Print,
+    mut words: Words<'_>,
+    call: F,
+) -> Result<()>
+    requires { F.IsAlwaysCallable call }
+{
+    let mut room = [0u8; TEXT];
+    let mut list = [BLANK; LIST];
+    let selector = number(words.word())?;
+    let n = number(words.word())? as usize;
+    let text = bytes(words.rest(), &mut room)?;
+    let lent = list.get_mut(..n).ok_or(Fault::Unreadable)?;
+    print_answer(rt, call(text, selector, lent))?;
+    print_records(rt, lent, 1, n, " ", "")?;
+    Ok(())
+}
+
+// The body of a string or a bit string, the kinds from 56 to 61: behind its quote, and before the one that closes it. The closed ones are odd.
+fn body_of(record: &[u32]) -> Option<Range<usize>> {
+    match record {
+        [kind @ 56..=61, _, suffix, start, _] if 0 < *suffix => {
+            let start = *start as usize;
+            Some(start + 1..start + *suffix as usize - (*kind % 2) as usize)
+        }
+        _ => None,
     }
-    let blank = Token {
+}
+
+// body PROFILE INDEX MODE HEX: the items of the body of a token.
+pub fn body(rt: &impl Print, mut words: Words<'_>) -> Result<()> {
+    let mut room = [0u8; TEXT];
+    let mut list = [BLANK; LIST];
+    let profile = number(words.word())?;
+    let index = number(words.word())? as usize;
+    let mode = number(words.word())?;
+    let text = bytes(words.rest(), &mut room)?;
+    let n = listing::tokenize(text, profile, &mut list)?;
+    let body = list
+        .chunks_exact(RECORD)
+        .take(n)
+        .nth(index)
+        .and_then(body_of)
+        .ok_or(Fault::Unreadable)?;
+    let n = unescape::unescape_part(text, body.start, body.end, mode, &mut list)?;
+    print!(rt; "0 {n}")?;
+    print_records(rt, &list, ITEM, n, " ", ",")?;
+    Ok(())
+}
+
+fn print_token(rt: &impl Print, t: Token) -> io::Result<()> {
+    let Token {
+        kind,
+        len,
+        suffix,
+        start,
+        misplaced,
+    } = t;
+    print!(rt; " {kind} {len} {suffix} {start} {misplaced}")
+}
+
+// rowroom PROFILE RECORDS HEX: what `tokenize_rows` answers for a row of so many records, and all of the row after the call.
+pub fn row_room(rt: &impl Print, mut words: Words<'_>) -> Result<()> {
+    let mut room = [0u8; TEXT];
+    let mut row = [Token {
         kind: BLANK,
         len: BLANK,
         suffix: BLANK,
         start: BLANK,
         misplaced: BLANK,
-    };
-    let given = rows_of(text, asked.first, [blank; 64], n);
-    let row = given.row;
-    print_answer(rt, given.answer)?;
-    print_row(rt, row, n)
+    }; ROW];
+    let profile = number(words.word())?;
+    let n = number(words.word())? as usize;
+    let text = bytes(words.rest(), &mut room)?;
+    let lent = row.get_mut(..n).ok_or(Fault::Unreadable)?;
+    print_answer(rt, tokenize_rows(text, profile, lent))?;
+    for t in lent.iter() {
+        print_token(rt, *t)?;
+    }
+    Ok(())
 }

@@ -1,89 +1,58 @@
 // The names of the kinds, those of docs/KINDS.md: the Rust's, with what tells two kinds of one name apart.
-use crate::print;
-use std::io;
+use cutters::{Base, Kind};
+use std::fmt;
 
-pub fn print_kind(rt: &impl Print, kind: u32) -> io::Result<()> {
-    match kind {
-        10..=36 => print_mark(rt, kind),
-        40..=55 => print_numeral(rt, kind),
-        _ => print_other(rt, kind),
+// A kind, which prints as its name.
+#[derive(Clone, Copy)]
+pub struct Name(pub Kind);
+
+fn digits(base: Base) -> &'static str {
+    match base {
+        Base::Binary => "binary",
+        Base::Octal => "octal",
+        Base::Decimal => "decimal",
+        Base::Hexadecimal => "hexadecimal",
     }
 }
 
-fn print_mark(rt: &impl Print, kind: u32) -> io::Result<()> {
-    match kind {
-        10 => print(rt, b"Semi"),
-        11 => print(rt, b"Comma"),
-        12 => print(rt, b"Dot"),
-        13 => print(rt, b"OpenParen"),
-        14 => print(rt, b"CloseParen"),
-        15 => print(rt, b"OpenBrace"),
-        16 => print(rt, b"CloseBrace"),
-        17 => print(rt, b"OpenBracket"),
-        18 => print(rt, b"CloseBracket"),
-        19 => print(rt, b"At"),
-        20 => print(rt, b"Pound"),
-        21 => print(rt, b"Tilde"),
-        22 => print(rt, b"Question"),
-        23 => print(rt, b"Colon"),
-        24 => print(rt, b"Dollar"),
-        25 => print(rt, b"Eq"),
-        26 => print(rt, b"Bang"),
-        27 => print(rt, b"Lt"),
-        28 => print(rt, b"Gt"),
-        29 => print(rt, b"Minus"),
-        30 => print(rt, b"And"),
-        31 => print(rt, b"Or"),
-        32 => print(rt, b"Plus"),
-        33 => print(rt, b"Star"),
-        34 => print(rt, b"Slash"),
-        35 => print(rt, b"Caret"),
-        _ => print(rt, b"Percent"),
+fn ended(terminated: bool) -> &'static str {
+    if terminated {
+        "terminated"
+    } else {
+        "unterminated"
     }
 }
 
-// The base of Int and Float, by its place.
-fn print_base(rt: &impl Print, place: u32) -> io::Result<()> {
-    match place {
-        0 => print(rt, b"binary "),
-        1 => print(rt, b"octal "),
-        2 => print(rt, b"decimal "),
-        _ => print(rt, b"hexadecimal "),
-    }
+fn when(flag: bool, words: &str) -> &str {
+    if flag { words } else { "" }
 }
 
-fn print_numeral(rt: &impl Print, kind: u32) -> io::Result<()> {
-    print_base(rt, kind / 2 % 4)?;
-    let odd = kind % 2 == 1;
-    if kind < 48 {
-        if odd {
-            return print(rt, b"Int without digits");
+impl fmt::Display for Name {
+    fn fmt<W: fmt::Write>(&self, f: &mut fmt::Formatter<W>) -> fmt::Result {
+        match self.0 {
+            Kind::BlockComment { terminated: true } => write!(f, "closed BlockComment"),
+            Kind::BlockComment { terminated: false } => write!(f, "unclosed BlockComment"),
+            Kind::Int { base, empty_int } => {
+                let lack = when(empty_int, " without digits");
+                write!(f, "{} Int{lack}", digits(base))
+            }
+            Kind::Float {
+                base,
+                empty_exponent,
+            } => {
+                let lack = when(empty_exponent, " with an empty exponent");
+                write!(f, "{} Float{lack}", digits(base))
+            }
+            Kind::Str { terminated } => write!(f, "{} Str", ended(terminated)),
+            Kind::BitStr {
+                terminated,
+                consecutive_underscores,
+            } => {
+                let twice = when(consecutive_underscores, " with consecutive underscores");
+                write!(f, "{} BitStr{twice}", ended(terminated))
+            }
+            // Each of the others by its name alone.
+            kind => write!(f, "{kind:?}"),
         }
-        return print(rt, b"Int");
-    }
-    if odd {
-        return print(rt, b"Float with an empty exponent");
-    }
-    print(rt, b"Float")
-}
-
-fn print_other(rt: &impl Print, kind: u32) -> io::Result<()> {
-    match kind {
-        1 => print(rt, b"LineComment"),
-        2 => print(rt, b"closed BlockComment"),
-        3 => print(rt, b"unclosed BlockComment"),
-        4 => print(rt, b"Whitespace"),
-        5 => print(rt, b"Ident"),
-        6 => print(rt, b"HardwareIdent"),
-        7 => print(rt, b"InvalidIdent"),
-        8 => print(rt, b"Pragma"),
-        9 => print(rt, b"Annotation"),
-        56 => print(rt, b"unterminated Str"),
-        57 => print(rt, b"terminated Str"),
-        58 => print(rt, b"unterminated BitStr"),
-        59 => print(rt, b"terminated BitStr"),
-        60 => print(rt, b"unterminated BitStr with consecutive underscores"),
-        61 => print(rt, b"terminated BitStr with consecutive underscores"),
-        _ => print(rt, b"Unknown"),
     }
 }

@@ -16,9 +16,10 @@
 
 mod kinds;
 
-ghost use Rattle.std.specs.Prelude.{◌≤◌, length, IfOk};
+ghost use Rattle.std.specs.Prelude.{◌≤◌, length};
 
-use same::{Comparison, Sight};
+use kinds::Name;
+use same::{Comparison, Place, Sight};
 use std::env::FillError;
 use std::io::{Error, Read};
 use std::rt::{Env, Files};
@@ -38,108 +39,71 @@ const ENAMETOOLONG: i32 = 36;
 
 const EILSEQ: i32 = 84;
 
-// Whether all of a file was read, and how many bytes that is.
+// A file's name, which is what the system takes and need not be text, and what the file holds.
 #[derive(Clone, Copy)]
-struct Input {
-    whole: bool,
-    len: usize,
+struct Input<'a> {
+    name: &'a [u8],
+    text: &'a [u8],
 }
 
-fn print(rt: &impl Print, bytes: &[u8]) -> io::Result<()> {
-    rt.write_all(bytes)
+// What went wrong, and with what: a file by its name, or what the program calls it.
+#[derive(Drop)]
+struct Trouble<'a> {
+    what: &'a [u8],
+    fault: Fault,
 }
 
-fn complain(rt: &HostRuntime, bytes: &[u8]) -> io::Result<()> {
-    rt.stderr().write_all(bytes)
-}
-
-// The system's words for an error, without the number that std puts behind them.
-fn words_of(whole: &str) -> &str {
-    match whole.rsplit_once(" (os error ") {
-        Some((words, _)) => words,
-        None => whole,
-    }
-}
-
-// Tells on standard error, by the system's words for it, what went wrong.
-fn fail(rt: &HostRuntime, what: &[u8], error: Error) -> io::Result<()> {
-    let whole = format!(in rt.alloc(); "{error}")?;
-    let why = words_of(whole.as_str());
-    complain(rt, what)?;
-    eprintln!(rt; ": {why}")
-}
-
-fn print_number(rt: &impl Print, label: &[u8], number: u64) -> io::Result<()> {
-    print(rt, label)?;
-    rt.print(number)
-}
-
-fn print_kind(rt: &impl Print, kind: u32) -> io::Result<()> {
-    print_number(rt, b" kind ", kind as u64)?;
-    print(rt, b" (")?;
-    kinds::print_kind(rt, kind)?;
-    print(rt, b")")
+#[derive(Drop)]
+enum Fault {
+    System(Error),
+    Interrupted,
+    TooLong,
 }
 
 fn print_place(rt: &impl Print, text: &[u8], at: usize) -> io::Result<()> {
-    let place = same::place_of(text, at);
-    print_number(rt, b" line ", place.line as u64)?;
-    print_number(rt, b" column ", place.column as u64)
+    let Place { line, column } = same::place_of(text, at);
+    print!(rt; " line {line} column {column}")
 }
 
-fn print_sight(rt: &impl Print, label: &[u8], text: &[u8], sight: Sight) -> io::Result<()> {
-    print(rt, label)?;
-    if sight.len == 0 {
-        return print(rt, b" end");
+fn print_sight(rt: &impl Print, label: &str, text: &[u8], sight: Sight) -> io::Result<()> {
+    let Sight { kind, start, len } = sight;
+    if len == 0 {
+        return print!(rt; ", {label} end");
     }
-    print_kind(rt, sight.kind)?;
-    print_number(rt, b" start ", sight.start as u64)?;
-    print_number(rt, b" length ", sight.len as u64)?;
-    print_place(rt, text, sight.start)
+    let name = Name(kind);
+    print!(rt; ", {label} kind {kind} ({name}) start {start} length {len}")?;
+    print_place(rt, text, start)
 }
 
 fn print_refusal(rt: &impl Print, name: &[u8], given: Answer) -> io::Result<()> {
-    print_number(rt, b"refused ", given.number as u64)?;
-    print_number(rt, b" ", given.also)?;
-    print(rt, b" ")?;
-    print(rt, name)?;
-    print(rt, b"\n")
+    let Answer { number, also } = given;
+    print!(rt; "refused {number} {also} ")?;
+    rt.write_all(name)?;
+    println!(rt)
 }
 
 fn print_difference(rt: &impl Print, old: &[u8], new: &[u8], c: Comparison) -> io::Result<()> {
-    print_number(rt, b"different\ntoken ", (c.agreed as u64).wrapping_add(1))?;
-    print_sight(rt, b", old", old, c.old)?;
-    print_sight(rt, b", new", new, c.new)?;
-    print(rt, b"\n")
+    let number = c.agreed.saturating_add(1);
+    print!(rt; "different\ntoken {number}")?;
+    print_sight(rt, "old", old, c.old)?;
+    print_sight(rt, "new", new, c.new)?;
+    println!(rt)
 }
 
-fn compare_texts(
-    rt: &impl Print,
-    profile: u32,
-    old: &[u8],
-    old_name: &[u8],
-    new: &[u8],
-    new_name: &[u8],
-) -> io::Result<()> {
-    let c = same::compare(old, new, profile);
-    if c.verdict == same::SAME {
-        return print(rt, b"same\n");
+fn print_comparison(rt: &impl Print, profile: u32, old: Input<'_>, new: Input<'_>) -> io::Result<()> {
+    let c = same::compare(old.text, new.text, profile);
+    match c.verdict {
+        same::SAME => println!(rt; "same"),
+        same::OLD_REFUSED => print_refusal(rt, old.name, c.refusal),
+        same::NEW_REFUSED => print_refusal(rt, new.name, c.refusal),
+        _ => print_difference(rt, old.text, new.text, c),
     }
-    if c.verdict == same::OLD_REFUSED {
-        return print_refusal(rt, old_name, c.refusal);
-    }
-    if c.verdict == same::NEW_REFUSED {
-        return print_refusal(rt, new_name, c.refusal);
-    }
-    print_difference(rt, old, new, c)
 }
 
 // Opens a file for reading. The system's names are bytes, and std's are text: a name that is no text is refused here.
 fn open<R: Files>(rt: &R, name: &[u8]) -> io::Result<R::File> {
-    match str::from_utf8(name) {
-        Ok(path) => fs::open(rt, path),
-        Err(_) => Err(Error::from_raw_os_error(EILSEQ)),
-    }
+    let path = str::from_utf8(name).map_err(|_| Error::from_raw_os_error(EILSEQ))?;
+    fs::open(rt, path)
 }
 
 // Reads until the room is full, the file ends or a read fails, and answers how many bytes it put at the start of the room.
@@ -156,143 +120,107 @@ fn read_full(file: &mut impl Read, room: &mut [u8]) -> usize
     done
 }
 
-// Whether the file ends where reading stopped; if not, why it cannot be compared.
-fn ends(rt: &HostRuntime, file: &mut impl Read, name: &[u8], n: usize) -> io::Result<bool> {
-    let mut one = [0u8; 1];
-    let got = file.read(&mut one);
-    if let Ok(0) = got {
-        return Ok(true);
-    }
-    complain(rt, b"oqsame: ")?;
-    if let Err(e) = got {
-        fail(rt, name, e)?;
-        return Ok(false);
-    }
-    complain(rt, name)?;
-    if n < MOST {
-        complain(rt, b": reading was interrupted\n")?;
-        return Ok(false);
-    }
-    eprintln!(rt; ": longer than {MOST} bytes")?;
-    Ok(false)
-}
-
-fn read_file(rt: &HostRuntime, name: &[u8], room: &mut [u8]) -> io::Result<Input>
-    ensures { IfOk result (λ r. r.len ≤ length room.new) }
-{
-    match open(rt, name) {
-        Ok(mut file) => {
-            let len = read_full(&mut file, room);
-            let whole = ends(rt, &mut file, name, len)?;
-            Ok(Input { whole, len })
-        }
-        Err(e) => {
-            complain(rt, b"oqsame: ")?;
-            fail(rt, name, e)?;
-            Ok(Input {
-                whole: false,
-                len: 0,
-            })
-        }
+// Reads all of a file: where reading stopped it has to end.
+fn read_file<'a>(rt: &impl Files, name: &[u8], room: &'a mut [u8]) -> Result<&'a [u8], Fault> {
+    let mut file = open(rt, name).map_err(Fault::System)?;
+    let n = read_full(&mut file, room);
+    match file.read(&mut [0u8; 1]) {
+        Ok(0) => Ok(&room[..n]),
+        Ok(_) if n < MOST => Err(Fault::Interrupted),
+        Ok(_) => Err(Fault::TooLong),
+        Err(e) => Err(Fault::System(e)),
     }
 }
 
-fn compare_files(
-    rt: &HostRuntime,
-    profile: u32,
-    old: &mut [u8],
-    old_name: &[u8],
-    new: &mut [u8],
-    new_name: &[u8],
-) -> io::Result<()> {
-    let first = read_file(rt, old_name, old)?;
-    if !first.whole {
-        return Ok(());
-    }
-    let second = read_file(rt, new_name, new)?;
-    if !second.whole {
-        return Ok(());
-    }
-    let a = first.len;
-    let b = second.len;
-    match compare_texts(rt, profile, &old[0..a], old_name, &new[0..b], new_name) {
-        Ok(()) => Ok(()),
-        Err(e) => fail(rt, b"oqsame: standard output", e),
+fn read_input<'a>(rt: &impl Files, name: &'a [u8], room: &'a mut [u8]) -> Result<Input<'a>, Trouble<'a>> {
+    match read_file(rt, name, room) {
+        Ok(text) => Ok(Input { name, text }),
+        Err(fault) => Err(Trouble { what: name, fault }),
     }
 }
 
-// The system's word for a name that was not read.
-fn cause(error: FillError) -> Error {
-    match error {
-        FillError::NotPresent => Error::from_raw_os_error(EINVAL),
-        FillError::TooLong => Error::from_raw_os_error(ENAMETOOLONG),
-    }
-}
-
-// Reads the two names.
-fn run(
-    rt: &HostRuntime,
-    profile: u32,
-    old: &mut [u8; MOST],
-    new: &mut [u8; MOST],
-) -> io::Result<()> {
-    let mut old_name = [0u8; NAME];
-    let a = match rt.arg(1, &mut old_name) {
-        Ok(n) => n,
-        Err(e) => return fail(rt, b"oqsame: OLD", cause(e)),
+// The word behind the program's own name, or the system's word for why it was not read.
+fn read_name<'a>(rt: &impl Env, i: usize, what: &'a [u8], room: &'a mut [u8]) -> Result<&'a [u8], Trouble<'a>> {
+    let number = match rt.arg(i, room) {
+        Ok(n) => return Ok(&room[..n]),
+        Err(FillError::NotPresent) => EINVAL,
+        Err(FillError::TooLong) => ENAMETOOLONG,
     };
-    let mut new_name = [0u8; NAME];
-    let b = match rt.arg(2, &mut new_name) {
-        Ok(n) => n,
-        Err(e) => return fail(rt, b"oqsame: NEW", cause(e)),
-    };
-    compare_files(rt, profile, old, &old_name[..a], new, &new_name[..b])
+    let fault = Fault::System(Error::from_raw_os_error(number));
+    Err(Trouble { what, fault })
+}
+
+// Reads the two names, then the two files.
+fn compare<'a, R: Print + Env + Files>(
+    rt: &R,
+    profile: u32,
+    old_name: &'a mut [u8; NAME],
+    old: &'a mut [u8; MOST],
+    new_name: &'a mut [u8; NAME],
+    new: &'a mut [u8; MOST],
+) -> Result<(), Trouble<'a>> {
+    let old_name = read_name(rt, 1, b"OLD", old_name)?;
+    let new_name = read_name(rt, 2, b"NEW", new_name)?;
+    let old = read_input(rt, old_name, old)?;
+    let new = read_input(rt, new_name, new)?;
+    print_comparison(rt, profile, old, new).map_err(|e| Trouble {
+        what: b"standard output",
+        fault: Fault::System(e),
+    })
+}
+
+// The system's words for an error, without the number that std puts behind them.
+fn words_of(whole: &str) -> &str {
+    whole
+        .rsplit_once(" (os error ")
+        .map_or(whole, |(words, _)| words)
+}
+
+// Tells on standard error what went wrong, by the system's words for it where it has some.
+fn tell(rt: &HostRuntime, trouble: Trouble<'_>) -> io::Result<()> {
+    eprint!(rt; "oqsame: ")?;
+    rt.stderr().write_all(trouble.what)?;
+    match trouble.fault {
+        Fault::System(error) => {
+            let whole = format!(in rt.alloc(); "{error}")?;
+            let why = words_of(whole.as_str());
+            eprintln!(rt; ": {why}")
+        }
+        Fault::Interrupted => eprintln!(rt; ": reading was interrupted"),
+        Fault::TooLong => eprintln!(rt; ": longer than {MOST} bytes"),
+    }
 }
 
 // Goes on where the words behind the two names, the first of which is lent, ask for a profile that is known.
-fn run_under(rt: &HostRuntime, words: usize, first: &[u8]) -> io::Result<()> {
+fn run(rt: &HostRuntime, words: usize, first: &[u8]) -> io::Result<()> {
     let checked = arguments::check_asked(words, first);
     if checked.number != text::DONE {
-        return complain(
-            rt,
-            b"oqsame: the profile, behind the two names, must be 0 or 1\n",
-        );
+        return eprintln!(rt; "oqsame: the profile, behind the two names, must be 0 or 1");
     }
+    let profile = arguments::profile_asked(words, first);
+    let mut old_name = [0u8; NAME];
     let mut old = [0u8; MOST];
+    let mut new_name = [0u8; NAME];
     let mut new = [0u8; MOST];
-    run(
-        rt,
-        arguments::profile_asked(words, first),
-        &mut old,
-        &mut new,
-    )
+    compare(rt, profile, &mut old_name, &mut old, &mut new_name, &mut new)
+        .or_else(|trouble| tell(rt, trouble))
+}
+
+// How many words the program was called by, its own name among them.
+fn words(rt: &impl Env) -> usize {
+    (0..usize::MAX)
+        .take_while(|i| !matches!(rt.arg(*i, &mut [0u8; 1]), Err(FillError::NotPresent)))
+        .count()
 }
 
 // Reads the profile, if a word behind the two names is to name it. One that is longer than a profile's name is answered as an empty
 // one, which names none either.
-fn read_profile(rt: &HostRuntime, words: usize) -> io::Result<()> {
-    let mut first = [0u8; 1];
-    match rt.arg(3, &mut first) {
-        Ok(n) => run_under(rt, words, &first[..n]),
-        Err(_) => run_under(rt, words, b""),
-    }
-}
-
-// How many words the program was called by, its own name among them.
-fn arg_count(rt: &impl Env) -> usize {
-    let mut room = [0u8; 1];
-    for i in 0..usize::MAX {
-        if let Err(FillError::NotPresent) = rt.arg(i, &mut room) {
-            return i;
-        }
-    }
-    usize::MAX
-}
-
 fn main(rt: HostRuntime) -> io::Result<()> {
-    match arg_count(&rt) {
-        3 => read_profile(&rt, 0),
-        4 => read_profile(&rt, 1),
-        _ => complain(&rt, b"usage: oqsame OLD NEW [PROFILE]\n"),
+    let mut first = [0u8; 1];
+    let len = rt.arg(3, &mut first).unwrap_or(0);
+    match words(&rt) {
+        3 => run(&rt, 0, b""),
+        4 => run(&rt, 1, &first[..len]),
+        _ => eprintln!(rt; "usage: oqsame OLD NEW [PROFILE]"),
     }
 }
