@@ -3,15 +3,14 @@
 
 ghost use Rattle.std.specs.Prelude.{◌≡◌};
 ghost use Rattle.characters.specs.Utf8.{chars};
-ghost use Rattle.text.specs.Answer.{Answered};
-ghost use Rattle.letters.specs.Chars.{ident_by, is_ident};
-ghost use Rattle.lexer.specs.Unicode.{start_in, more_in};
-ghost use Rattle.lexer.specs.Promises.{identified};
+ghost use Rattle.letters.specs.Chars.{ident_by};
+ghost use Rattle.lexer.specs.Unicode.{start_in, more_in, unicode, lent};
+ghost use Rattle.lexer.specs.Promises.{identified, yes_or_no};
 
 mod advance;
 mod comments;
 mod cursor;
-pub mod kinds;
+mod lent;
 mod numbers;
 mod quotes;
 mod words;
@@ -19,53 +18,33 @@ mod words;
 pub use advance::advance_token;
 use characters::utf8::decode;
 use cursor::Cursor;
-pub use cursor::{
-    goes_on, is_digit, is_digit_by, is_hex_digit, is_id_start_in, is_wide_emoji, not_lf,
-};
+pub use cursor::{is_digit, is_digit_by, is_hex_digit, not_lf};
+pub use cutters::{Base, Kind};
+pub use lent::Letters;
 pub use letters::{is_id_continue, is_id_start, is_whitespace};
 pub use numbers::{is_e, is_sign, is_unit};
-use text::{Answer, check_text};
-use ucd::tables;
+use text::{Refusal, check_text};
 
-// Over tables of the letters that are lent.
-fn is_ident_in(text: &[u8], start: &[u32], more: &[u32]) -> bool
-    ensures { result ≡ ident_by (start_in start.now) (more_in more.now) (chars text.now) }
+// Over letters that are lent.
+fn is_ident_in(text: &[u8], letters: Letters<'_>) -> bool
+    ensures { result ≡ ident_by (start_in letters.entry.start.now) (more_in letters.entry.more.now) (chars text.now) }
 {
     if text.len() == 0 {
         return false;
     }
     let d = decode(text, 0);
-    if !is_id_start_in(start, d.code) {
+    if !letters.is_id_start(d.code) {
         return false;
     }
     let next = Cursor { at: d.wide };
-    let end = next.eat_id_continue(text, more);
+    let end = next.eat_id_continue(text, letters);
     end.at == text.len()
 }
 
-// Lends the tables, once for the whole text.
-fn lend_ident(text: &[u8]) -> bool
-    ensures { result ≡ is_ident (chars text.now) }
+// Whether a text is an identifier.
+pub fn is_ident(text: &[u8]) -> Result<bool, Refusal>
+    ensures { yes_or_no result ≡ identified text.now }
 {
-    is_ident_in(text, &tables::XID_START, &tables::XID_CONTINUE)
-}
-
-// Whether a text is an identifier: 1 for yes, 0 for no.
-pub fn is_ident(text: &[u8]) -> Answer
-    ensures { Answered (identified text.now) result.number result.also }
-{
-    let checked = check_text(text);
-    if checked.number != text::DONE {
-        return checked;
-    }
-    if lend_ident(text) {
-        return Answer {
-            number: text::DONE,
-            also: 1,
-        };
-    }
-    Answer {
-        number: text::DONE,
-        also: 0,
-    }
+    check_text(text)?;
+    Ok(is_ident_in(text, Letters::unicode()))
 }

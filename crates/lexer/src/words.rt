@@ -1,108 +1,76 @@
 // Identifiers, pragmas, annotations and hardware identifiers.
 ghost use Rattle.std.specs.Prelude.{◌≡◌, ◌∷◌, ◌≤◌, length};
 ghost use Rattle.characters.specs.Text.{left};
-ghost use Rattle.lexer.specs.Cut.{name, word, pound, annotated, hardware};
+ghost use Rattle.cutters.specs.Numbers.{kind_number};
+ghost use Rattle.lexer.specs.Cut.{agree, name, word, pound, annotated, hardware};
 ghost use Rattle.lexer.specs.Unicode.{start_in, more_in, emoji_in};
-ghost use Rattle.lexer.specs.Steps.{Parted, Agreed, Wired};
+ghost use Rattle.lexer.specs.Steps.{Parted, Wired, place_of};
 
 use crate::comments::Part;
-use crate::cursor::{Cursor, byte, is_id_start_in, is_wide_emoji};
-use crate::kinds;
+use crate::cursor::{Cursor, byte};
+use crate::lent::Letters;
 use crate::numbers::Figures;
-use characters::utf8::decode;
+use cutters::Kind;
 
 // The word that makes a Pragma of a line.
-const PRAGMA_WORD: [u8; 6] = *b"pragma";
+static PRAGMA_WORD: [u8; 6] = *b"pragma";
 
-// How many characters of the text agree with a word, and the cursor behind them.
-#[derive(Clone, Copy)]
-struct Agreement {
-    count: usize,
-    cursor: Cursor,
-}
-
-fn agree_with(text: &[u8], from: Cursor, word: &[u8]) -> Agreement
-    requires { from.at ≤ length text.now }
-    ensures { Agreed word.now text.now from.at result.count result.cursor.at }
+// How many bytes of a text agree with a word.
+fn agree_with(text: &[u8], word: &[u8]) -> usize
+    ensures { result ≡ agree word.now text.now }
 {
-    let mut at = from.at;
-    let mut count: usize = 0;
-    while count < word.len() {
-        if text.len() <= at {
-            return Agreement {
-                count,
-                cursor: Cursor { at },
-            };
-        }
-        let d = decode(text, at);
-        let w = word[count] as u32;
-        if d.code != w {
-            return Agreement {
-                count,
-                cursor: Cursor { at },
-            };
-        }
-        at = at + d.wide;
-        count = count + 1;
-    }
-    Agreement {
-        count,
-        cursor: Cursor { at },
-    }
+    text.iter().zip(word).take_while(|(b, w)| b == w).count()
 }
 
 // Behind a number sign: the bytes of `pragma` make a Pragma of the line.
 pub fn pound(text: &[u8], from: Cursor) -> Part
     requires { from.at ≤ length text.now }
-    ensures { Parted pound text.now from.at result.kind result.cursor.at }
+    ensures { Parted pound text.now from.at (kind_number result.kind) result.cursor.at }
 {
-    let a = agree_with(text, from, &PRAGMA_WORD);
-    if a.count == PRAGMA_WORD.len() {
-        let cursor = from.eat_line(text);
+    let n = agree_with(&text[from.at..], &PRAGMA_WORD);
+    if n == PRAGMA_WORD.len() {
         return Part {
-            kind: kinds::PRAGMA,
-            cursor,
+            kind: Kind::Pragma,
+            cursor: from.eat_line(text),
         };
     }
-    let cursor = a.cursor;
     Part {
-        kind: kinds::INVALID_IDENT,
-        cursor,
+        kind: Kind::InvalidIdent,
+        cursor: Cursor { at: from.at + n },
     }
 }
 
 // Behind the ASCII that an identifier begins with.
-fn wide_name(text: &[u8], from: Cursor, more: &[u32], emoji: &[u32]) -> Part
+fn wide_name(text: &[u8], from: Cursor, letters: Letters<'_>) -> Part
     requires { from.at ≤ length text.now }
-    ensures { Parted (name (more_in more.now) (emoji_in emoji.now)) text.now from.at result.kind result.cursor.at }
+    ensures { Parted (name (more_in letters.entry.more.now) (emoji_in letters.entry.emoji.now)) text.now from.at (kind_number result.kind) result.cursor.at }
 {
-    let cursor = from.eat_id_continue(text, more);
-    if is_wide_emoji(emoji, cursor.first(text)) {
-        let cursor = cursor.eat_fake(text, more, emoji);
+    let cursor = from.eat_id_continue(text, letters);
+    if letters.is_wide_emoji(cursor.first(text)) {
         return Part {
-            kind: kinds::INVALID_IDENT,
-            cursor,
+            kind: Kind::InvalidIdent,
+            cursor: cursor.eat_fake(text, letters),
         };
     }
     Part {
-        kind: kinds::IDENT,
+        kind: Kind::Ident,
         cursor,
     }
 }
 
 // Behind the first character of an identifier. Most are of ASCII alone, and end here.
-fn name(text: &[u8], from: Cursor, more: &[u32], emoji: &[u32]) -> Part
+fn name(text: &[u8], from: Cursor, letters: Letters<'_>) -> Part
     requires { from.at ≤ length text.now }
-    ensures { Parted (name (more_in more.now) (emoji_in emoji.now)) text.now from.at result.kind result.cursor.at }
+    ensures { Parted (name (more_in letters.entry.more.now) (emoji_in letters.entry.emoji.now)) text.now from.at (kind_number result.kind) result.cursor.at }
 {
-    let cursor = from.eat_ascii_continue(text, more);
+    let cursor = from.eat_ascii_continue(text, letters);
     if byte(text, cursor.at) < 0x80 {
         return Part {
-            kind: kinds::IDENT,
+            kind: Kind::Ident,
             cursor,
         };
     }
-    wide_name(text, cursor, more, emoji)
+    wide_name(text, cursor, letters)
 }
 
 // Behind the first character c of an identifier that begins at `own`. Under profile 1 the bytes of `pragma` make a Pragma of
@@ -113,69 +81,54 @@ pub fn ident_or_unknown_prefix(
     c: u32,
     from: Cursor,
     profile: u32,
-    more: &[u32],
-    emoji: &[u32],
+    letters: Letters<'_>,
 ) -> Part
     requires { (own.at ≤ length text.now) × (from.at ≤ length text.now) × (left text.now own.at ≡ c ∷ left text.now from.at) }
-    ensures { Parted (word (more_in more.now) (emoji_in emoji.now) profile c) text.now from.at result.kind result.cursor.at }
+    ensures { Parted (word (more_in letters.entry.more.now) (emoji_in letters.entry.emoji.now) profile c) text.now from.at (kind_number result.kind) result.cursor.at }
 {
-    if profile == 1 {
-        let a = agree_with(text, own, &PRAGMA_WORD);
-        if a.count == PRAGMA_WORD.len() {
-            let cursor = from.eat_line(text);
-            return Part {
-                kind: kinds::PRAGMA,
-                cursor,
-            };
-        }
+    if profile == 1 && text[own.at..].starts_with(&PRAGMA_WORD) {
+        return Part {
+            kind: Kind::Pragma,
+            cursor: from.eat_line(text),
+        };
     }
-    name(text, from, more, emoji)
+    name(text, from, letters)
 }
 
 // Behind an at sign.
-pub fn annotation(text: &[u8], from: Cursor, start: &[u32]) -> Part
+pub fn annotation(text: &[u8], from: Cursor, letters: Letters<'_>) -> Part
     requires { from.at ≤ length text.now }
-    ensures { Parted (annotated (start_in start.now)) text.now from.at result.kind result.cursor.at }
+    ensures { Parted (annotated (start_in letters.entry.start.now)) text.now from.at (kind_number result.kind) result.cursor.at }
 {
-    if is_id_start_in(start, from.first(text)) {
-        let cursor = from.eat_line(text);
+    if letters.is_id_start(from.first(text)) {
         return Part {
-            kind: kinds::ANNOTATION,
-            cursor,
+            kind: Kind::Annotation,
+            cursor: from.eat_line(text),
         };
     }
     Part {
-        kind: kinds::AT,
+        kind: Kind::At,
         cursor: from,
     }
 }
 
 // Behind a dollar sign.
-pub fn hardware_ident(text: &[u8], from: Cursor, more: &[u32], emoji: &[u32]) -> Figures
+pub fn hardware_ident(text: &[u8], from: Cursor, letters: Letters<'_>) -> Figures
     requires { from.at ≤ length text.now }
-    ensures { (Parted (hardware (more_in more.now) (emoji_in emoji.now)) text.now from.at result.kind result.cursor.at) × (Wired text.now from.at result.kind result.misplaced result.cursor.at) }
+    ensures { (Parted (hardware (more_in letters.entry.more.now) (emoji_in letters.entry.emoji.now)) text.now from.at (kind_number result.kind) result.cursor.at) × (Wired text.now from.at (kind_number result.kind) (place_of result.misplaced) result.cursor.at) }
 {
-    if is_wide_emoji(emoji, from.first(text)) {
-        let mid = from.eat_id_continue(text, more);
-        let cursor = mid.eat_fake(text, more, emoji);
+    if letters.is_wide_emoji(from.first(text)) {
+        let mid = from.eat_id_continue(text, letters);
         return Figures {
-            kind: kinds::INVALID_IDENT,
-            misplaced: 0,
-            cursor,
+            kind: Kind::InvalidIdent,
+            misplaced: None,
+            cursor: mid.eat_fake(text, letters),
         };
     }
-    let d = from.eat_decimal_digits(text);
-    let cursor = d.cursor;
-    if d.any {
-        return Figures {
-            kind: kinds::HARDWARE_IDENT,
-            misplaced: d.misplaced,
-            cursor,
-        };
-    }
+    let d = from.eat_digits::<false>(text);
     Figures {
-        kind: kinds::DOLLAR,
+        kind: if d.any { Kind::HardwareIdent } else { Kind::Dollar },
         misplaced: d.misplaced,
-        cursor,
+        cursor: d.cursor,
     }
 }

@@ -1,9 +1,0 @@
-use Rattle.lexer.proofs.Flags.{flags}
-use borrow.Author.Rules.{rules}
-use Rattle.lexer.proofs.cursor.is_id_start_in.Goals as goal
-
-pub returns-then-c-eq95 : goal.returns-then-c-eq95
-returns-then-c-eq95 c = search (rules, flags)
-
-pub returns : goal.returns
-returns c = search (rules, flags)
