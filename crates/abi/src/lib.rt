@@ -34,14 +34,14 @@ use unescape::{unescape_literal, unescape_part};
 pub extern "C" fn oq3_tokenize(text: &[u8], profile: u32, list: &mut [u32]) -> Answer
     ensures { Listed text.now profile list.old result.number result.also list.new }
 {
-    tokenize(text, profile, list)
+    Answer::from(tokenize(text, profile, list))
 }
 
 #[unsafe(no_mangle)]
 pub extern "C" fn oq3_tokenize_rows(text: &[u8], profile: u32, row: &mut [Token]) -> Answer
     ensures { Rowed text.now profile row.old result.number result.also row.new }
 {
-    tokenize_rows(text, profile, row)
+    Answer::from(tokenize_rows(text, profile, row))
 }
 
 #[unsafe(no_mangle)]
@@ -69,7 +69,7 @@ pub extern "C" fn oq3_is_id_continue(c: u32) -> bool
 pub extern "C" fn oq3_is_ident(text: &[u8]) -> Answer
     ensures { Answered (identified text.now) result.number result.also }
 {
-    lexer::is_ident(text)
+    Answer::from(lexer::is_ident(text))
 }
 
 // ---- texts that come in parts
@@ -126,7 +126,7 @@ pub extern "C" fn oq3_feed_text_number(
 pub extern "C" fn oq3_renewal_key(text: &[u8], profile: u32, key: &mut [u8]) -> Answer
     ensures { Keyed text.now profile key.old result.number result.also key.new }
 {
-    renewal_key(text, profile, key)
+    Answer::from(renewal_key(text, profile, key))
 }
 
 // ---- two texts compared
@@ -149,7 +149,7 @@ pub extern "C" fn oq3_place_of(text: &[u8], at: usize) -> Place
 pub extern "C" fn oq3_unescape_literal(body: &[u8], mode: u32, list: &mut [u32]) -> Answer
     ensures { Unescaped body.now mode list.old result.number result.also list.new }
 {
-    unescape_literal(body, mode, list)
+    Answer::from(unescape_literal(body, mode, list))
 }
 
 #[unsafe(no_mangle)]
@@ -162,7 +162,7 @@ pub extern "C" fn oq3_unescape_part(
 ) -> Answer
     ensures { Unescaped (part text.now from to) mode list.old result.number result.also list.new }
 {
-    unescape_part(text, from, to, mode, list)
+    Answer::from(unescape_part(text, from, to, mode, list))
 }
 
 #[unsafe(no_mangle)]
@@ -190,28 +190,28 @@ pub extern "C" fn oq3_byte_from_char(c: u32) -> u8
 pub extern "C" fn oq3_in_double_quotes(mode: u32) -> Answer
     ensures { Answered (tested_mode in_double_quotes mode) result.number result.also }
 {
-    unescape::in_double_quotes(mode)
+    Answer::from(unescape::in_double_quotes(mode))
 }
 
 #[unsafe(no_mangle)]
 pub extern "C" fn oq3_characters_should_be_ascii(mode: u32) -> Answer
     ensures { Answered (tested_mode characters_should_be_ascii mode) result.number result.also }
 {
-    unescape::characters_should_be_ascii(mode)
+    Answer::from(unescape::characters_should_be_ascii(mode))
 }
 
 #[unsafe(no_mangle)]
 pub extern "C" fn oq3_is_unicode_escape_disallowed(mode: u32) -> Answer
     ensures { Answered (tested_mode is_unicode_escape_disallowed mode) result.number result.also }
 {
-    unescape::is_unicode_escape_disallowed(mode)
+    Answer::from(unescape::is_unicode_escape_disallowed(mode))
 }
 
 #[unsafe(no_mangle)]
 pub extern "C" fn oq3_prefix_noraw(mode: u32) -> Answer
     ensures { Answered (tested_mode has_prefix mode) result.number result.also }
 {
-    unescape::prefix_noraw(mode)
+    Answer::from(unescape::prefix_noraw(mode))
 }
 
 #[unsafe(no_mangle)]
@@ -225,7 +225,7 @@ pub extern "C" fn oq3_is_raw(mode: u32) -> bool
 pub extern "C" fn oq3_is_fatal(error: u32) -> Answer
     ensures { Answered (fatal error) result.number result.also }
 {
-    unescape::is_fatal(error)
+    Answer::from(unescape::is_fatal(error))
 }
 
 // ---- texts and characters
@@ -240,14 +240,14 @@ pub extern "C" fn oq3_default_profile() -> u32
 pub extern "C" fn oq3_check_text(text: &[u8]) -> Answer
     ensures { Answered (check_text text.now) result.number result.also }
 {
-    check_text(text)
+    Answer::from(check_text(text))
 }
 
 #[unsafe(no_mangle)]
 pub extern "C" fn oq3_check_cut(text: &[u8], profile: u32) -> Answer
     ensures { Answered (check_cut text.now profile) result.number result.also }
 {
-    check_cut(text, profile)
+    Answer::from(check_cut(text, profile))
 }
 
 #[unsafe(no_mangle)]

@@ -14,7 +14,7 @@ pub enum Fault {
     Unwritten(io::Error),
 }
 
-pub type Result<T> = std::result::Result<T, Fault>;
+pub type Result<T, E = Fault> = std::result::Result<T, E>;
 
 impl From<io::Error> for Fault {
     fn from(error: io::Error) -> Fault {
@@ -31,6 +31,16 @@ impl From<Refusal> for Fault {
 pub fn print_answer(rt: &impl Print, given: impl Into<Answer>) -> io::Result<()> {
     let Answer { number, also } = given.into();
     print!(rt; "{number} {also}")
+}
+
+// What is printed in place of an answer.
+pub fn print_fault(rt: &impl Print, fault: Fault) -> io::Result<()> {
+    match fault {
+        Fault::Unknown => print!(rt; "unknown"),
+        Fault::Unreadable => print!(rt; "unreadable"),
+        Fault::Refused(refusal) => print_answer(rt, Err::<usize, Refusal>(refusal)),
+        Fault::Unwritten(error) => Err(error),
+    }
 }
 
 // Words with a mark between them.

@@ -4,7 +4,7 @@ ghost use Rattle.std.specs.Prelude.{◌<◌};
 use crate::output::{Fault, Result, print_answer, print_records};
 use crate::words::{TEXT, Words, bytes, number};
 use cutters::RECORD;
-use rows::{Token, tokenize_rows};
+use rows::{ROW, Rows, Token, rows_of};
 use std::io;
 use std::ops::Range;
 use text::Refusal;
@@ -15,14 +15,11 @@ pub const ITEM: usize = 3;
 // The most words of a list: a token's for each byte of the longest text. An item has no more words than a token.
 pub const LIST: usize = RECORD * TEXT;
 
-// The most records of a row.
-const ROW: usize = 64;
-
 // What stands in a word before the call.
 pub const BLANK: u32 = 0xA5A5A5A5;
 
 // tok PROFILE HEX, unescape MODE HEX: what a call answers, and the records that it lists, so many words each.
-pub fn listed<F: Fn(&[u8], u32, &mut [u32]) -> std::result::Result<usize, Refusal>>(
+pub fn listed<F: Fn(&[u8], u32, &mut [u32]) -> Result<usize, Refusal>>(
     rt: &impl Print,
     mut words: Words<'_>,
     width: usize,
@@ -43,7 +40,7 @@ pub fn listed<F: Fn(&[u8], u32, &mut [u32]) -> std::result::Result<usize, Refusa
 
 // tokroom PROFILE WORDS HEX, itemroom MODE WORDS HEX: what a call answers where it is lent so many words, with A5 in each byte, and all of them
 // after the call, so that what it doesn't write is seen.
-pub fn room<F: Fn(&[u8], u32, &mut [u32]) -> std::result::Result<usize, Refusal>>(
+pub fn room<F: Fn(&[u8], u32, &mut [u32]) -> Result<usize, Refusal>>(
     rt: &impl Print,
     mut words: Words<'_>,
     call: F,
@@ -107,19 +104,22 @@ fn print_token(rt: &impl Print, t: Token) -> io::Result<()> {
 // rowroom PROFILE RECORDS HEX: what `tokenize_rows` answers for a row of so many records, and all of the row after the call.
 pub fn row_room(rt: &impl Print, mut words: Words<'_>) -> Result<()> {
     let mut room = [0u8; TEXT];
-    let mut row = [Token {
+    let profile = number(words.word())?;
+    let n = number(words.word())? as usize;
+    let text = bytes(words.rest(), &mut room)?;
+    if ROW < n {
+        return Err(Fault::Unreadable);
+    }
+    let blank = Token {
         kind: BLANK,
         len: BLANK,
         suffix: BLANK,
         start: BLANK,
         misplaced: BLANK,
-    }; ROW];
-    let profile = number(words.word())?;
-    let n = number(words.word())? as usize;
-    let text = bytes(words.rest(), &mut room)?;
-    let lent = row.get_mut(..n).ok_or(Fault::Unreadable)?;
-    print_answer(rt, tokenize_rows(text, profile, lent))?;
-    for t in lent.iter() {
+    };
+    let Rows { answer, row } = rows_of(text, profile, [blank; ROW], n);
+    print_answer(rt, answer)?;
+    for t in row.iter().take(n) {
         print_token(rt, *t)?;
     }
     Ok(())

@@ -6,13 +6,13 @@
 //     body PROFILE INDEX MODE HEX, pair PROFILE HEX HEX
 //     oqlist ARGUMENTS HEX, compare PROFILE HEX HEX
 use crate::lines::Line;
-use crate::output::{Fault, Result, print_answer};
+use crate::output::{Fault, Result, print_answer, print_fault};
 use crate::words::{TEXT, Words, bytes};
 use crate::{comparisons, keys, listings, numbers, records, texts};
 use cutters::RECORD;
 use listing::tokenize;
 use std::io;
-use text::{Answer, Refusal};
+use text::Answer;
 use unescape::unescape_literal;
 
 // What a call answers to a text.
@@ -58,13 +58,7 @@ fn answer(rt: &impl Print, line: &Line) -> Result<()> {
 // Prints the line and its answer. Of a line too long there is the beginning.
 pub fn answer_line(rt: &impl Print, line: &Line) -> io::Result<()> {
     rt.write_all(line.bytes())?;
-    rt.print(" = ")?;
-    match answer(rt, line) {
-        Ok(()) => {}
-        Err(Fault::Unknown) => rt.print("unknown")?,
-        Err(Fault::Unreadable) => rt.print("unreadable")?,
-        Err(Fault::Refused(refusal)) => print_answer(rt, Err::<usize, Refusal>(refusal))?,
-        Err(Fault::Unwritten(error)) => return Err(error),
-    }
-    rt.print("\n")
+    print!(rt; " = ")?;
+    answer(rt, line).or_else(|fault| print_fault(rt, fault))?;
+    println!(rt)
 }
