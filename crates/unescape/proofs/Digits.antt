@@ -3,18 +3,17 @@
 use Prim.Native.Nat.{ℕ, suc, ◌+◌, ◌-◌, ◌*◌, ◌^◌, ◌≤◌, ◌<◌, min}
 use native.Mathlib.Omega.{arith}
 use native.Mathlib.Nat.{pow-suc, pow-le-pow_right}
-use mathlib.Core.Path.{◌≡◌, refl, sym, ◌∙◌}
-use mathlib.Core.Bool.{Bool, true, false, not}
-use mathlib.Core.List.{List}
-use lib.ListN.{length, get_or}
-use lib.Dec.{eqb, ltb}
-use borrow.Author.Tests.{lt-leb, ltb-true, ltb-false, ne_eqb, not-false}
+use mathlib.Core.Path.{◌≡◌, refl}
+use mathlib.Core.Bool.{true, false, cond}
+use lib.Dec.{ltb}
+use borrow.Author.Tests.{lt-leb, lt-ltb, ltb-true, ltb-false, ne_eqb}
+use Rattle.std.specs.Prelude.{Option}
+use Rattle.std.specs.Bool.{then_some}
+use Rattle.unescape.specs.Steps.{is_digit}
 use Rattle.lists.proofs.Bools.{by_test, and_false}
 use Rattle.characters.specs.Ranges.{◌to◌, in_range}
-use Rattle.characters.specs.Steps.{Ate}
 use Rattle.characters.proofs.Rows.{in_range_lem}
-use Rattle.characters.proofs.Ascii.{Going, going_none, going_on, going_halt, going_end}
-use Rattle.unescape.specs.Escapes.{to_digit, or_underscore, count_digit, valued, add_digit}
+use Rattle.unescape.specs.Escapes.{to_digit, or_underscore, add_digit}
 
 -- ---- the value of a digit, by its range
 -- what lies beyond the high end of a range does not lie in it
@@ -45,6 +44,12 @@ module _ (c : ℕ) {r : ℕ} where
       (λ h. by_test (in_range c (0x41 to 0x46)) (λ k. omega (arith, rw (h, k) at e, in_range_lem 0x41 0x46 c k))
       (λ k. by_test (in_range c (0x61 to 0x66)) (λ l. omega (arith, rw (h, k, l) at e, in_range_lem 0x61 0x66 c l)) (λ l. omega (arith, rw (h, k, l) at e))))
 
+-- the value, where it is that of a digit
+pub digit_kept : (c : ℕ) {v : ℕ} {d : Option ℕ} → v ≡ to_digit c → d ≡ then_some (ltb v 16) v → is_digit c d
+digit_kept c {v} e f =
+    by_test (ltb v 16) (λ h. rw (f, h) (e, ltb-true v 16 h))
+    (λ h. rw (f, h) (omega (arith, e, digit_most c e, ltb-false v 16 h)))
+
 -- none before `0`, and none behind `f`, is a digit
 pub digit_below : (c : ℕ) → c < 0x30 → 16 ≡ to_digit c
 digit_below c h = digit_none c (simp (lt-leb 0x30 c h)) (simp (lt-leb 0x41 c (omega arith))) (simp (lt-leb 0x61 c (omega arith))) refl
@@ -74,47 +79,40 @@ small_cap {n} {v} s h =
     let b : v < 16 ^ n = rw e at s.below in
     omega arith
 
-digit_small : (c : ℕ) → or_underscore c ≡ true → eqb c 0x5F ≡ false → to_digit c < 16
-digit_small c h e = ltb-true (to_digit c) 16 (rw e at h)
-
-small_more : (n v d : ℕ) → Small n v → n < 6 → d < 16 → Small (n + 1) (v * 16 + d)
-small_more n v d s h k =
+small_digit : (n v d : ℕ) → Small n v → n < 6 → d < 16 → Small (n + 1) (v * 16 + d)
+small_digit n v d s h k =
     let e : min n 6 ≡ n = omega arith in
     let f : min (n + 1) 6 ≡ suc n = omega arith in
     let b : v < 16 ^ n = rw e at s.below in
     let p = pow-suc 16 n in
     record { below = rw (f, p) (omega arith) }
 
-pub small_on : (c : ℕ) {n v n' v' : ℕ} {b : Bool} → Small n v → b ≡ or_underscore c → not b ≡ false → n' ≡ count_digit n c → v' ≡ valued n v c → Small n' v'
-small_on c {n} {v} {n'} {v'} {b} s o t e f =
-    let g : or_underscore c ≡ true = sym o ∙ not-false b t in
-    by_test (eqb c 0x5F)
-    (λ h. let x : n' ≡ n = rw h at e in let y : v' ≡ v = rw h at f in rw (x, y) s)
-    (λ h.
-    let x : n' ≡ n + 1 = rw h at e in
-    by_test (ltb n 6)
-    (λ k. let y : v' ≡ v * 16 + to_digit c = rw (h, k) at f in rw (x, y) (small_more n v (to_digit c) s (ltb-true n 6 k) (digit_small c g h)))
+-- ---- what a byte behind the first digit does
+-- an underscore
+module _ {c : ℕ} (h : c ≡ 0x5F) where
+  pub underscore_eaten : or_underscore c ≡ true
+  underscore_eaten = rw h
+
+  pub underscore_adds : (n v : ℕ) → (n, v) ≡ add_digit (n, v) c
+  underscore_adds n v = rw h
+
+-- a digit
+module _ {c : ℕ} (h : c ≡ 0x5F → ⊥) {d : ℕ} (e : d ≡ to_digit c) (l : d < 16) where
+  pub digit_eaten : or_underscore c ≡ true
+  digit_eaten = rw (ne_eqb c 0x5F h, lt-ltb (to_digit c) 16 (omega (arith, e)))
+
+  pub digit_adds : (n v : ℕ) → (n + 1, cond (ltb n 6) (v * 16 + d) v) ≡ add_digit (n, v) c
+  digit_adds n v = rw (ne_eqb c 0x5F h, ← e)
+
+pub small_more : {n v d : ℕ} → Small n v → d < 16 → Small (n + 1) (cond (ltb n 6) (v * 16 + d) v)
+small_more {n} {v} {d} s l =
+    by_test (ltb n 6) (λ k. rw k (small_digit n v d s (ltb-true n 6 k) l))
     (λ k.
-    let y : v' ≡ v = rw (h, k) at f in
-    let l = ltb-false n 6 k in
+    let m = ltb-false n 6 k in
     let i : min n 6 ≡ 6 = omega arith in
     let j : min (n + 1) 6 ≡ 6 = omega arith in
-    rw (x, y) (record { below = rw j (rw i at s.below) })))
+    rw k (record { below = rw j (rw i at s.below) }))
 
--- no more digits than bytes
-pub count_few : (c at : ℕ) {n n' at' : ℕ} → n ≤ at + 1 → n' ≡ count_digit n c → at' ≡ at + 1 → n' ≤ at' + 1
-count_few c at h e f = rw e (by_test (eqb c 0x5F) (λ k. rw k (omega arith)) (λ k. rw k (omega arith)))
-
--- one digit more, as the loop's law takes it
-pub added : (n v c : ℕ) {n' v' : ℕ} → n' ≡ count_digit n c → v' ≡ valued n v c → (n', v') ≡ add_digit (n, v) c
-added n v c e f = rw (e, f)
-
--- where they end
-module _ {s : List ℕ} {at₀ at : ℕ} {x₀ x : ℕ × ℕ} (e : Going or_underscore add_digit s at₀ x₀ at x) where
-  pub digits_halt : {c : ℕ} {f : Bool} → c ≡ get_or s at 0 → at < length s → f ≡ or_underscore c → f ≡ false → Ate or_underscore add_digit s at₀ x₀ at x
-  digits_halt = going_halt digit_wide e
-
-  pub digits_end : length s ≤ at → Ate or_underscore add_digit s at₀ x₀ at x
-  digits_end = going_end digit_wide e
-
-pub ruleset digit_by_digit = (going_none, going_on, digits_halt, digits_end, added)
+-- what is neither
+pub digit_halts : {c : ℕ} → (c ≡ 0x5F → ⊥) → 16 ≡ to_digit c → or_underscore c ≡ false
+digit_halts {c} h e = rw (ne_eqb c 0x5F h, ← e)

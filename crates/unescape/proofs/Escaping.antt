@@ -1,155 +1,142 @@
 -- What each scanner answers at each of its returns, as `search` takes the laws.
 -- Assumes nothing.
-use Prim.Native.Nat.{ℕ, ◌+◌, ◌*◌, ◌≤◌, ◌<◌}
-use native.Mathlib.Decide.{dec_lt}
+use Prim.Native.Nat.{ℕ, ◌+◌, ◌*◌, ◌<◌}
 use native.Mathlib.Omega.{arith}
 use mathlib.Core.Path.{◌≡◌, refl, ap}
 use mathlib.Core.Bool.{Bool}
 use mathlib.Core.List.{List}
-use lib.ListN.{length}
 use borrow.Author.Tests.{lt-ltb, le-ltb, ne_eqb}
-use Rattle.characters.specs.Text.{Decoded}
-use Rattle.characters.specs.Steps.{Ate}
-use Rattle.characters.proofs.Text.{decoded_end}
-use Rattle.unescape.specs.declared.escapes.Escape.{Escape}
-use Rattle.unescape.specs.declared.escapes.Escape.TheVariants.{Value, Error}
+use Rattle.std.specs.Prelude.{Option, Some, None, Result, Ok, Err, IfOk}
+use Rattle.std.specs.Option.{ok_or}
+use Rattle.modes.specs.declared.errors.EscapeError.{EscapeError}
+use Rattle.modes.specs.declared.errors.EscapeError.TheVariants as bad
 use Rattle.modes.specs.Errors.{Outcome, char, error}
+use Rattle.unescape.specs.Chars.{Next}
 use Rattle.unescape.specs.Escapes.{◌then◌, to_digit, hex_digit, hex_escape, first_digit, or_underscore, add_digit, more_digits, code_point, closing, braced, unicode_escape, simple, escape}
-use Rattle.unescape.specs.Steps.{end_of, escape_at, Scanned}
-use Rattle.unescape.proofs.Scans.{scanned_as, scanned_end, scanned_char, scanned_on, then_error, then_value}
+use Rattle.unescape.specs.Steps.{outcome_of, is_digit, Scanned, AteOn}
+use Rattle.unescape.proofs.Scans.{scanned_end, scanned_char, scanned_on, then_error, then_value}
 
-module _ {s : List ℕ} {at : ℕ} where
+module _ {s s' : List ℕ} {at end : ℕ} {x : Option ℕ} (n : Next s at x s' end) {r : Result ℕ EscapeError} where
   -- ---- at the end
-  module _ (h : length s ≤ at) (k : at ≤ length s) where
-    pub hex_none : Scanned hex_digit s at (Error 8 at)
+  module _ (k : x ≡ None) where
+    pub hex_none : r ≡ Err bad.TooShortHexEscape → Scanned hex_digit s at r s' end
     unfolding hex_digit
-    hex_none = scanned_end hex_digit refl h k
+    hex_none e = scanned_end n hex_digit k refl e
 
-    pub first_none : Scanned first_digit s at (Error 14 at)
+    pub first_none : r ≡ Err bad.UnclosedUnicodeEscape → Scanned first_digit s at r s' end
     unfolding first_digit
-    first_none = scanned_end first_digit refl h k
+    first_none e = scanned_end n first_digit k refl e
 
-    pub closing_none : (ascii_only : Bool) (d : ℕ × ℕ) → Scanned (closing ascii_only d) s at (Error 14 at)
+    pub closing_none : (ascii_only : Bool) (d : ℕ × ℕ) → r ≡ Err bad.UnclosedUnicodeEscape → Scanned (closing ascii_only d) s at r s' end
     unfolding closing
-    closing_none ascii_only d = scanned_end (closing ascii_only d) refl h k
+    closing_none ascii_only d e = scanned_end n (closing ascii_only d) k refl e
 
-    pub escape_none : (ascii_only : Bool) → Scanned (escape ascii_only) s at (Error 3 at)
+    pub unicode_none : (ascii_only : Bool) → r ≡ Err bad.NoBraceInUnicodeEscape → Scanned (unicode_escape ascii_only) s at r s' end
+    unfolding unicode_escape
+    unicode_none ascii_only e = scanned_end n (unicode_escape ascii_only) k refl e
+
+    pub escape_none : (ascii_only : Bool) → r ≡ Err bad.LoneSlash → Scanned (escape ascii_only) s at r s' end
     unfolding escape
-    escape_none ascii_only = scanned_end (escape ascii_only) refl h k
+    escape_none ascii_only e = scanned_end n (escape ascii_only) k refl e
 
   -- ---- by one character
-  module _ {code wide end : ℕ} (d : Decoded s at code wide) (l : at < length s) (u : end ≡ at + wide) where
-    module _ {v : ℕ} (f : v ≡ to_digit code) where
-      pub hex_bad : 16 ≤ v → Scanned hex_digit s at (Error 9 end)
-      unfolding hex_digit
-      hex_bad h =
-          scanned_char hex_digit d l u (error 9) (λ t. rw (le-ltb (to_digit code) 16 (rw f at h))) refl
+  module _ {c : ℕ} (k : x ≡ Some c) where
+    pub hex_read : (d : Option ℕ) → is_digit c d → r ≡ ok_or d bad.InvalidCharInHexEscape → (Scanned hex_digit s at r s' end) × IfOk r (λ v. v < 16)
+    unfolding hex_digit
+    hex_read None e w =
+        (scanned_char n hex_digit k (error 9) (λ t. rw (le-ltb (to_digit c) 16 (omega (arith, e)))) (ap outcome_of w), rw w tt)
+    hex_read (Some v) e w =
+        (scanned_char n hex_digit k (char v) (λ t. rw (lt-ltb (to_digit c) 16 (omega (arith, e.0, e.1)), ← e.0)) (ap outcome_of w), rw w e.1)
 
-      pub hex_fine : {x : ℕ} → v < 16 → x ≡ v → Scanned hex_digit s at (Value x end)
-      unfolding hex_digit
-      hex_fine h e =
-          scanned_char hex_digit d l u (char v) (λ t. rw (lt-ltb (to_digit code) 16 (rw f at h), f)) (rw e)
-
-      module _ (n : code ≡ 0x5F → ⊥) (m : code ≡ 0x7D → ⊥) where
-        pub first_bad : 16 ≤ v → Scanned first_digit s at (Error 12 end)
-        unfolding first_digit
-        first_bad h =
-            scanned_char first_digit d l u (error 12) (λ t. rw (ne_eqb code 0x5F n, ne_eqb code 0x7D m, le-ltb (to_digit code) 16 (rw f at h))) refl
-
-        pub first_fine : {x : ℕ} → v < 16 → x ≡ v → Scanned first_digit s at (Value x end)
-        unfolding first_digit
-        first_fine h e =
-            scanned_char first_digit d l u (char v) (λ t. rw (ne_eqb code 0x5F n, ne_eqb code 0x7D m, lt-ltb (to_digit code) 16 (rw f at h), f)) (rw e)
-
-    pub first_underscore : code ≡ 0x5F → Scanned first_digit s at (Error 15 end)
+    pub first_underscore : c ≡ 0x5F → r ≡ Err bad.LeadingUnderscoreUnicodeEscape → Scanned first_digit s at r s' end
     unfolding first_digit
-    first_underscore h = scanned_char first_digit d l u (error 15) (λ t. rw h) refl
+    first_underscore h w = scanned_char n first_digit k (error 15) (λ t. rw h) (ap outcome_of w)
 
-    pub first_brace : code ≡ 0x7D → Scanned first_digit s at (Error 13 end)
+    pub first_brace : c ≡ 0x7D → r ≡ Err bad.EmptyUnicodeEscape → Scanned first_digit s at r s' end
     unfolding first_digit
-    first_brace h = scanned_char first_digit d l u (error 13) (λ t. rw h) refl
+    first_brace h w = scanned_char n first_digit k (error 13) (λ t. rw h) (ap outcome_of w)
 
-    pub closing_bad : (ascii_only : Bool) (x : ℕ × ℕ) → (code ≡ 0x7D → ⊥) → Scanned (closing ascii_only x) s at (Error 12 end)
-    unfolding closing
-    closing_bad ascii_only x n = scanned_char (closing ascii_only x) d l u (error 12) (λ t. rw (ne_eqb code 0x7D n)) refl
+    pub first_read : (c ≡ 0x5F → ⊥) → (c ≡ 0x7D → ⊥) → (d : Option ℕ) → is_digit c d → r ≡ ok_or d bad.InvalidCharInUnicodeEscape → (Scanned first_digit s at r s' end) × IfOk r (λ v. v < 16)
+    unfolding first_digit
+    first_read g h None e w =
+        (scanned_char n first_digit k (error 12) (λ t. rw (ne_eqb c 0x5F g, ne_eqb c 0x7D h, le-ltb (to_digit c) 16 (omega (arith, e)))) (ap outcome_of w), rw w tt)
+    first_read g h (Some v) e w =
+        (scanned_char n first_digit k (char v) (λ t. rw (ne_eqb c 0x5F g, ne_eqb c 0x7D h, lt-ltb (to_digit c) 16 (omega (arith, e.0, e.1)), ← e.0)) (ap outcome_of w), rw w e.1)
 
-    pub closing_fine : (ascii_only : Bool) (n v : ℕ) {r : Escape} → code ≡ 0x7D → r ≡ escape_at (code_point ascii_only n v) end → Scanned (closing ascii_only (n, v)) s at r
-    unfolding closing
-    closing_fine ascii_only n v h e = scanned_char (closing ascii_only (n, v)) d l u (code_point ascii_only n v) (λ t. rw h) e
+    module _ (ascii_only : Bool) where
+      pub closing_bad : (d : ℕ × ℕ) → (c ≡ 0x7D → ⊥) → r ≡ Err bad.InvalidCharInUnicodeEscape → Scanned (closing ascii_only d) s at r s' end
+      unfolding closing
+      closing_bad d h w = scanned_char n (closing ascii_only d) k (error 12) (λ t. rw (ne_eqb c 0x7D h)) (ap outcome_of w)
 
-    pub escape_hex : (ascii_only : Bool) {r : Escape} → code ≡ 0x78 → Scanned hex_escape s end r → Scanned (escape ascii_only) s at r
-    unfolding escape
-    escape_hex ascii_only h q = scanned_on (escape ascii_only) d l u hex_escape (λ t. rw h) q
+      pub closing_fine : (count value : ℕ) → c ≡ 0x7D → outcome_of r ≡ code_point ascii_only count value → Scanned (closing ascii_only (count, value)) s at r s' end
+      unfolding closing
+      closing_fine count value h w = scanned_char n (closing ascii_only (count, value)) k (code_point ascii_only count value) (λ t. rw h) w
 
-    pub escape_unicode : (ascii_only : Bool) {r : Escape} → code ≡ 0x75 → Scanned (unicode_escape ascii_only) s end r → Scanned (escape ascii_only) s at r
-    unfolding escape
-    escape_unicode ascii_only h q = scanned_on (escape ascii_only) d l u (unicode_escape ascii_only) (λ t. rw h) q
+      pub escape_simple : (c ≡ 0x78 → ⊥) → (c ≡ 0x75 → ⊥) → outcome_of r ≡ simple c → Scanned (escape ascii_only) s at r s' end
+      unfolding escape
+      escape_simple g h w = scanned_char n (escape ascii_only) k (simple c) (λ t. rw (ne_eqb c 0x78 g, ne_eqb c 0x75 h)) w
 
-    pub escape_simple : (ascii_only : Bool) {r : Escape} → (code ≡ 0x78 → ⊥) → (code ≡ 0x75 → ⊥) → r ≡ escape_at (simple code) end → Scanned (escape ascii_only) s at r
-    unfolding escape
-    escape_simple ascii_only n m e =
-        scanned_char (escape ascii_only) d l u (simple code) (λ t. rw (ne_eqb code 0x78 n, ne_eqb code 0x75 m)) e
+      pub unicode_bad : (c ≡ 0x7B → ⊥) → r ≡ Err bad.NoBraceInUnicodeEscape → Scanned (unicode_escape ascii_only) s at r s' end
+      unfolding unicode_escape
+      unicode_bad h w = scanned_char n (unicode_escape ascii_only) k (error 11) (λ t. rw (ne_eqb c 0x7B h)) (ap outcome_of w)
 
-  -- ---- two digits of \x
-  module _ {r : Escape} (q : Scanned hex_digit s at r) where
-    second : ℕ → List ℕ → Outcome × List ℕ
-    second hi t = hex_digit t then (λ lo u. (char (hi * 16 + lo), u))
+      -- and what is behind it
+      module _ {s'' : List ℕ} {end' : ℕ} where
+        pub escape_hex : c ≡ 0x78 → Scanned hex_escape s' end r s'' end' → Scanned (escape ascii_only) s at r s'' end'
+        unfolding escape
+        escape_hex h q = scanned_on n (escape ascii_only) k hex_escape (λ t. rw h) q
 
-    pub hex_error : {e end : ℕ} → r ≡ Error e end → Scanned hex_escape s at r
+        pub escape_unicode : c ≡ 0x75 → Scanned (unicode_escape ascii_only) s' end r s'' end' → Scanned (escape ascii_only) s at r s'' end'
+        unfolding escape
+        escape_unicode h q = scanned_on n (escape ascii_only) k (unicode_escape ascii_only) (λ t. rw h) q
+
+        pub unicode_open : c ≡ 0x7B → Scanned (braced ascii_only) s' end r s'' end' → Scanned (unicode_escape ascii_only) s at r s'' end'
+        unfolding unicode_escape
+        unicode_open h q = scanned_on n (unicode_escape ascii_only) k (braced ascii_only) (λ t. rw h) q
+
+-- ---- two digits of \x
+second : ℕ → List ℕ → Outcome × List ℕ
+second hi t = hex_digit t then (λ lo u. (char (hi * 16 + lo), u))
+
+module _ {s s' : List ℕ} {at end : ℕ} {r : Result ℕ EscapeError} (q : Scanned hex_digit s at r s' end) {r'' : Result ℕ EscapeError} where
+  pub hex_error : {e : EscapeError} → r ≡ Err e → r'' ≡ Err e → Scanned hex_escape s at r'' s' end
+  unfolding hex_escape second
+  hex_error k w = then_error hex_escape hex_digit second (λ l. refl) q k w
+
+  module _ {hi : ℕ} (k : r ≡ Ok hi) {s'' : List ℕ} {end' : ℕ} {r' : Result ℕ EscapeError} (q' : Scanned hex_digit s' end r' s'' end') where
+    pub hex_short : {e : EscapeError} → r' ≡ Err e → r'' ≡ Err e → Scanned hex_escape s at r'' s'' end'
     unfolding hex_escape second
-    hex_error k = then_error hex_escape hex_digit second (λ l. refl) q k
+    hex_short k' w =
+        then_value hex_escape hex_digit second (λ l. refl) q k
+        (then_error (second hi) hex_digit (λ lo u. (char (hi * 16 + lo), u)) (λ l. refl) q' k' w)
 
-    module _ {hi next : ℕ} (k : r ≡ Value hi next) {r' : Escape} (q' : Scanned hex_digit s next r') where
-      pub hex_short : {e end : ℕ} → r' ≡ Error e end → Scanned hex_escape s at r'
-      unfolding hex_escape second
-      hex_short k' =
-          then_value hex_escape hex_digit second (λ l. refl) q k
-          (then_error (second hi) hex_digit (λ lo u. (char (hi * 16 + lo), u)) (λ l. refl) q' k')
+    pub hex_pair : {lo : ℕ} → r' ≡ Ok lo → r'' ≡ Ok (hi * 16 + lo) → Scanned hex_escape s at r'' s'' end'
+    unfolding hex_escape second
+    hex_pair {lo} k' w =
+        let p = q'.place in
+        then_value hex_escape hex_digit second (λ l. refl) q k
+        (then_value (second hi) hex_digit (λ lo u. (char (hi * 16 + lo), u)) (λ l. refl) q' k'
+        (record { same = refl; what = ap outcome_of w; place = record { after = omega arith; within = rw q'.same p.within; there = refl } }))
 
-      pub hex_pair : {lo end x : ℕ} → r' ≡ Value lo end → x ≡ hi * 16 + lo → Scanned hex_escape s at (Value x end)
-      unfolding hex_escape second
-      hex_pair {lo} {end} k' e =
-          let p = q'.place in
-          let n : _ ≡ end = ap (λ (r : Escape). end_of r) k' in
-          then_value hex_escape hex_digit second (λ l. refl) q k
-          (then_value (second hi) hex_digit (λ lo u. (char (hi * 16 + lo), u)) (λ l. refl) q' k'
-          (rw e (record { what = refl; place = record { after = omega arith; within = omega (arith, p.within); there = refl } })))
+-- ---- \u{..}
+behind : Bool → ℕ → List ℕ → Outcome × List ℕ
+behind ascii_only v t = closing ascii_only (more_digits v t).0 (more_digits v t).1
 
-  -- ---- \u{..}
-  module _ (ascii_only : Bool) {r : Escape} (q : Scanned first_digit s at r) where
-    behind : ℕ → List ℕ → Outcome × List ℕ
-    behind v t = closing ascii_only (more_digits v t).0 (more_digits v t).1
+module _ (ascii_only : Bool) {s s' : List ℕ} {at end : ℕ} {r : Result ℕ EscapeError} (q : Scanned first_digit s at r s' end) {r' : Result ℕ EscapeError} where
+  pub braced_error : {e : EscapeError} → r ≡ Err e → r' ≡ Err e → Scanned (braced ascii_only) s at r' s' end
+  unfolding braced behind
+  braced_error k w = then_error (braced ascii_only) first_digit (behind ascii_only) (λ l. refl) q k w
 
-    pub braced_error : {e end : ℕ} → r ≡ Error e end → Scanned (braced ascii_only) s at r
-    unfolding braced behind
-    braced_error k = then_error (braced ascii_only) first_digit behind (λ l. refl) q k
+  pub braced_value : {v next count value end' : ℕ} {t t' : List ℕ} → r ≡ Ok v → AteOn or_underscore add_digit s' end (1, v) t next (count, value) → Scanned (closing ascii_only (count, value)) t next r' t' end' → Scanned (braced ascii_only) s at r' t' end'
+  unfolding braced behind more_digits
+  braced_value {v} k a z' =
+      let z = rw a.same at z' in
+      let p = a.ate.place in
+      then_value (braced ascii_only) first_digit (behind ascii_only) (λ l. refl) q k
+      (record {
+        same = z.same;
+        what = rw (← a.ate.state, ← p.there) z.what;
+        place = rw (← a.ate.state, ← p.there) (record { after = omega (arith, p.after, z.place.after); within = z.place.within; there = z.place.there });
+      })
 
-    pub braced_value : {v next end n w : ℕ} {r' : Escape} → r ≡ Value v next → Ate or_underscore add_digit s next (1, v) end (n, w) → Scanned (closing ascii_only (n, w)) s end r' → Scanned (braced ascii_only) s at r'
-    unfolding braced behind more_digits
-    braced_value {v} {next} {end} {n} {w} k a z =
-        let p = a.place in
-        then_value (braced ascii_only) first_digit behind (λ l. refl) q k
-        (scanned_as (behind v) (rw (← a.state, ← p.there)) z.what
-        (record { after = omega (arith, p.after, z.place.after); within = z.place.within; there = z.place.there }))
-
-  -- the brace that opens; at the end `decode` answers NUL
-  module _ (ascii_only : Bool) {code wide end : ℕ} (d : Decoded s at code wide) (k : at ≤ length s) (u : end ≡ at + wide) where
-    pub unicode_open : {r : Escape} → code ≡ 0x7B → Scanned (braced ascii_only) s end r → Scanned (unicode_escape ascii_only) s at r
-    unfolding unicode_escape
-    unicode_open h q =
-        elim (dec_lt at (length s)) [
-          | yes l ↦ scanned_on (unicode_escape ascii_only) d l u (braced ascii_only) (λ t. rw h) q
-          | no n ↦ absurd (omega (arith, (decoded_end d (omega arith)).0))
-        ]
-
-    pub unicode_bad : (code ≡ 0x7B → ⊥) → Scanned (unicode_escape ascii_only) s at (Error 11 end)
-    unfolding unicode_escape
-    unicode_bad h =
-        elim (dec_lt at (length s)) [
-          | yes l ↦ scanned_char (unicode_escape ascii_only) d l u (error 11) (λ t. rw (ne_eqb code 0x7B h)) refl
-          | no n ↦
-              let e : end ≡ at = omega (arith, (decoded_end d (omega arith)).1) in
-              rw e (scanned_end (unicode_escape ascii_only) refl (omega arith) k)
-        ]
-
-pub ruleset scanning = (hex_none, first_none, closing_none, escape_none, hex_bad, hex_fine, first_bad, first_fine, first_underscore, first_brace, closing_bad, closing_fine, escape_hex, escape_unicode, escape_simple, hex_error, hex_short, hex_pair, braced_error, braced_value, unicode_open, unicode_bad)
+pub ruleset scanning = (hex_none, first_none, closing_none, unicode_none, escape_none, hex_read, first_underscore, first_brace, first_read, closing_bad, closing_fine, escape_simple, unicode_bad, escape_hex, escape_unicode, unicode_open, hex_error, hex_short, hex_pair, braced_error, braced_value)

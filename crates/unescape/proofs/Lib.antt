@@ -1,9 +1,10 @@
 pub mod Scans
-pub mod Digits
 pub mod Escaping
-pub mod Fair
 pub mod Turns
 pub mod Whole
+pub mod Eaten
+pub mod Digits
+pub mod Fair
 pub mod Order
 pub mod Samples
 pub mod Unique

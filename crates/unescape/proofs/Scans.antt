@@ -3,94 +3,107 @@
 -- Assumes nothing.
 use Prim.Native.Nat.{ℕ, ◌+◌, ◌≤◌, ◌<◌}
 use native.Mathlib.Omega.{arith}
-use mathlib.Core.Path.{◌≡◌, refl, ap, ◌∙◌}
-use mathlib.Core.Bool.{true, false}
+use mathlib.Core.Path.{◌≡◌, refl, ap, sym, ◌∙◌}
 use mathlib.Core.List.{List, [], ◌∷◌}
 use lib.ListN.{length}
+use Rattle.std.specs.Prelude.{Option, Some, None, Result, Ok, Err}
 use Rattle.characters.specs.Text.{Decoded, left}
-use Rattle.characters.specs.Steps.{Place}
 use Rattle.characters.proofs.Text.{decoded_point, left_end}
-use Rattle.unescape.specs.declared.escapes.Escape.{Escape}
-use Rattle.unescape.specs.declared.escapes.Escape.TheVariants.{Value, Error}
-use Rattle.unescape.specs.declared.bodies.Step.{Step}
+use Rattle.modes.specs.declared.errors.EscapeError.{EscapeError}
+use Rattle.modes.specs.Numbers.{error_number}
 use Rattle.modes.specs.Errors.{Outcome, char, error}
+use Rattle.unescape.specs.Chars.{first_of, rest_of, Next}
 use Rattle.unescape.specs.Escapes.{◌then◌}
-use Rattle.unescape.specs.Steps.{result_of, end_of, value_of, error_of, escape_at, step_of, Scanned}
+use Rattle.unescape.specs.Steps.{outcome_of, Scanned}
 
-pub result_at : (o : Outcome) (end : ℕ) → result_of (escape_at o end) ≡ o
-result_at (char c) end = refl
-result_at (error e) end = refl
+-- ---- the next character
+pub next_end : {s : List ℕ} {at : ℕ} → at ≤ length s → length s ≤ at → Next s at None s at
+next_end {s} {at} k h =
+    let e = left_end s at h in
+    record { same = refl; read = rw e; place = record { after = omega arith; within = k; there = e ∙ sym (ap rest_of e) } }
 
-pub end_at : (o : Outcome) (end : ℕ) → end_of (escape_at o end) ≡ end
-end_at (char c) end = refl
-end_at (error e) end = refl
+pub next_char : {s : List ℕ} {at code wide : ℕ} → Decoded s at code wide → at < length s → Next s at (Some code) s (at + wide)
+next_char d l =
+    let p = decoded_point d l in
+    record { same = refl; read = rw p.view; place = record { after = omega arith; within = p.within; there = sym (ap rest_of p.view) } }
 
-module _ (f : List ℕ → Outcome × List ℕ) {s : List ℕ} {at : ℕ} where
-  -- by what f says of what is left
-  pub scanned_as : {x : Outcome × List ℕ} {r : Escape} → f (left s at) ≡ x → result_of r ≡ x.0 → Place s at (end_of r) x.1 → Scanned f s at r
-  scanned_as {x} {r} e w p = record { what = rw e w; place = rw e p }
+none_left : (l : List ℕ) → None ≡ first_of l → l ≡ []
+none_left [] e = refl
+none_left (c ∷ t) e = cc
 
-  -- at the end
-  pub scanned_end : {e : ℕ} → f [] ≡ (error e, []) → length s ≤ at → at ≤ length s → Scanned f s at (Error e at)
-  scanned_end g h k =
-      scanned_as (ap f (left_end s at h) ∙ g) refl (record { after = omega arith; within = k; there = left_end s at h })
+some_left : (l : List ℕ) {c : ℕ} → Some c ≡ first_of l → l ≡ c ∷ rest_of l
+some_left [] e = cc
+some_left (c ∷ t) e = cc
 
-  -- the same as another
-  pub scanned_same : {g : List ℕ → Outcome × List ℕ} {r : Escape} → ((l : List ℕ) → f l ≡ g l) → Scanned g s at r → Scanned f s at r
-  scanned_same e q = scanned_as (e (left s at)) q.what q.place
+module _ {s s' : List ℕ} {at end : ℕ} {x : Option ℕ} (n : Next s at x s' end) where
+  pub next_none : x ≡ None → left s at ≡ []
+  next_none e = none_left (left s at) (sym e ∙ n.read)
 
-  -- with nothing read
-  pub scanned_stay : {r : Escape} (o : Outcome) → ((l : List ℕ) → f l ≡ (o, l)) → at ≤ length s → r ≡ escape_at o at → Scanned f s at r
-  scanned_stay o e k v =
-      rw v (scanned_as (e (left s at)) (result_at o at) (rw (end_at o at) (record { after = omega arith; within = k; there = refl })))
+  pub next_some : {c : ℕ} → x ≡ Some c → left s at ≡ c ∷ left s end
+  next_some {c} e = some_left (left s at) (sym e ∙ n.read) ∙ ap (λ (t : List ℕ). c ∷ t) (sym n.place.there)
 
-  -- by one character
-  module _ {code wide end : ℕ} (d : Decoded s at code wide) (l : at < length s) (u : end ≡ at + wide) where
-    here : (t : List ℕ → Outcome × List ℕ) → ((l : List ℕ) → f (code ∷ l) ≡ t l) → f (left s at) ≡ t (left s end)
-    here t g = ap f (decoded_point d l).view ∙ g (left s (at + wide)) ∙ rw u
+  module _ (f : List ℕ → Outcome × List ℕ) {r : Result ℕ EscapeError} where
+    -- at the end
+    pub scanned_end : {e : EscapeError} → x ≡ None → f [] ≡ (error (error_number e), []) → r ≡ Err e → Scanned f s at r s' end
+    scanned_end k g h =
+        let v = next_none k in
+        let p = n.place in
+        record {
+          same = n.same;
+          what = ap outcome_of h ∙ sym (ap (λ (l : List ℕ). (f l).0) v ∙ ap (λ (x : Outcome × List ℕ). x.0) g);
+          place = record { after = p.after; within = p.within; there = p.there ∙ ap rest_of v ∙ sym (ap (λ (l : List ℕ). (f l).1) v ∙ ap (λ (x : Outcome × List ℕ). x.1) g) };
+        }
 
-    pub scanned_char : {r : Escape} (o : Outcome) → ((t : List ℕ) → f (code ∷ t) ≡ (o, t)) → r ≡ escape_at o end → Scanned f s at r
-    scanned_char o g e =
-        let c = decoded_point d l in
-        rw e (scanned_as (here (λ t. (o, t)) g) (result_at o end)
-        (rw (end_at o end) (record { after = omega arith; within = omega (arith, c.within); there = refl })))
+    -- by one character
+    module _ {c : ℕ} (k : x ≡ Some c) where
+      pub scanned_char : (o : Outcome) → ((t : List ℕ) → f (c ∷ t) ≡ (o, t)) → outcome_of r ≡ o → Scanned f s at r s' end
+      scanned_char o g h =
+          let v = ap f (next_some k) ∙ g (left s end) in
+          let p = n.place in
+          record {
+            same = n.same;
+            what = h ∙ sym (ap (λ (x : Outcome × List ℕ). x.0) v);
+            place = record { after = p.after; within = p.within; there = sym (ap (λ (x : Outcome × List ℕ). x.1) v) };
+          }
 
-    -- and what is behind it
-    pub scanned_on : {r : Escape} (g : List ℕ → Outcome × List ℕ) → ((t : List ℕ) → f (code ∷ t) ≡ g t) → Scanned g s end r → Scanned f s at r
-    scanned_on g e q =
-        let p = q.place in
-        scanned_as (here g e) q.what (record { after = omega (arith, p.after); within = p.within; there = p.there })
+      -- and what is behind it
+      pub scanned_on : (g : List ℕ → Outcome × List ℕ) {s'' : List ℕ} {end' : ℕ} → ((t : List ℕ) → f (c ∷ t) ≡ g t) → Scanned g s' end r s'' end' → Scanned f s at r s'' end'
+      scanned_on g e q' =
+          let v = ap f (next_some k) ∙ e (left s end) in
+          let q = rw n.same at q' in
+          let p = q.place in
+          record {
+            same = q.same;
+            what = rw v q.what;
+            place = record { after = omega (arith, p.after, n.place.after); within = p.within; there = rw v p.there };
+          }
 
-  -- by a scan, and with its value another
-  module _ (g : List ℕ → Outcome × List ℕ) (h : ℕ → List ℕ → Outcome × List ℕ) (e : (l : List ℕ) → f l ≡ (g l then h)) {r : Escape} (q : Scanned g s at r) where
-    split : (o : Outcome) → result_of r ≡ o → f (left s at) ≡ ((o, left s (end_of r)) then h)
-    split o k = e (left s at) ∙ rw (← q.what, k, ← q.place.there)
+-- ---- by a scan, and with its value another
+module _ (f g : List ℕ → Outcome × List ℕ) (h : ℕ → List ℕ → Outcome × List ℕ) (e : (l : List ℕ) → f l ≡ (g l then h)) {s s' : List ℕ} {at end : ℕ} {r : Result ℕ EscapeError} (q : Scanned g s at r s' end) where
+  split : (o : Outcome) → outcome_of r ≡ o → f (left s at) ≡ ((o, left s end) then h)
+  split o k = e (left s at) ∙ rw (← q.what, k, ← q.place.there)
 
-    pub then_error : {k end : ℕ} → r ≡ Error k end → Scanned f s at r
-    then_error {k} {end} v =
-        let w = ap result_of v in
-        scanned_as (split (error k) w) w (record { after = q.place.after; within = q.place.within; there = refl })
+  pub then_error : {k : EscapeError} {r' : Result ℕ EscapeError} → r ≡ Err k → r' ≡ Err k → Scanned f s at r' s' end
+  then_error {k} v w =
+      let m = split (error (error_number k)) (ap outcome_of v) in
+      record { same = q.same; what = rw m (ap outcome_of w); place = record { after = q.place.after; within = q.place.within; there = rw m } }
 
-    pub then_value : {v next : ℕ} {r' : Escape} → r ≡ Value v next → Scanned (h v) s next r' → Scanned f s at r'
-    then_value {v} {next} k q' =
-        let n = ap end_of k in
-        let p = q.place in
-        scanned_as (split (char v) (ap result_of k) ∙ rw n) q'.what
-        (record { after = omega (arith, p.after, q'.place.after, n); within = q'.place.within; there = q'.place.there })
+  pub then_value : {v end' : ℕ} {s'' : List ℕ} {r' : Result ℕ EscapeError} → r ≡ Ok v → Scanned (h v) s' end r' s'' end' → Scanned f s at r' s'' end'
+  then_value {v} k q' =
+      let z = rw q.same at q' in
+      let m = split (char v) (ap outcome_of k) in
+      record {
+        same = z.same;
+        what = rw m z.what;
+        place = record { after = omega (arith, q.place.after, z.place.after); within = z.place.within; there = rw m z.place.there };
+      }
 
--- what a value says of the answer's bounds
-pub value_within : {f : List ℕ → Outcome × List ℕ} {s : List ℕ} {at : ℕ} {r : Escape} {v next : ℕ} → Scanned f s at r → r ≡ Value v next → next ≤ length s
-value_within {s = s} q e = rw e at q.place.within
+-- the same as another
+pub scanned_same : (f : List ℕ → Outcome × List ℕ) {g : List ℕ → Outcome × List ℕ} {s s' : List ℕ} {at end : ℕ} {r : Result ℕ EscapeError} → ((l : List ℕ) → f l ≡ g l) → Scanned g s at r s' end → Scanned f s at r s' end
+scanned_same f {s = s} {at = at} e q = let v = e (left s at) in record { same = q.same; what = rw v q.what; place = rw v q.place }
 
-pub value_small : {r : Escape} {v next k : ℕ} → value_of r < k → r ≡ Value v next → v < k
-value_small h e = rw e at h
-
--- the turn of one scan, by its cases
-pub step_value : {read : Escape} {v end : ℕ} → read ≡ Value v end → ◌≡◌ {A = Step} (record { at = end; some = true; outcome = v; space = false; past = end }) (step_of read)
-step_value e = rw e
-
-pub step_error : {read : Escape} {e at end k : ℕ} → read ≡ Error e at → end ≡ end_of read → k ≡ error_of read → ◌≡◌ {A = Step} (record { at = end; some = true; outcome = 1114112 + k; space = false; past = end }) (step_of read)
-step_error {read} v f g =
-    let x = f ∙ ap end_of v in
-    let y = g ∙ ap error_of v in
-    rw (x, y, v)
+-- with nothing read
+pub scanned_stay : (f : List ℕ → Outcome × List ℕ) {s : List ℕ} {at : ℕ} {r : Result ℕ EscapeError} → at ≤ length s → ((l : List ℕ) → f l ≡ (outcome_of r, l)) → Scanned f s at r s at
+scanned_stay f {s} {at} k e =
+    let v = e (left s at) in
+    record { same = refl; what = rw v; place = rw v (record { after = omega arith; within = k; there = refl }) }

@@ -2,13 +2,13 @@
 -- Assumes nothing.
 use Prim.Native.Nat.{ℕ, ◌+◌, ◌-◌, ◌*◌, ◌/◌, ◌≤◌, ◌<◌, min, max}
 use native.Mathlib.Omega.{arith}
-use native.Mathlib.Numerals.{add-one, add-two}
 use mathlib.Core.Path.{◌≡◌, refl, ap, sym, ◌∙◌}
-use mathlib.Core.Bool.{Bool, true, false, not, false≢true}
+use mathlib.Core.Bool.{Bool, true, false, false≢true}
 use mathlib.Core.List.{List, [], ◌∷◌, ◌++◌, append_assoc, flatten}
-use lib.ListN.{length, take, drop, set, length-append}
+use lib.Seq.{sets}
+use lib.ListN.{length, take, drop, length-append}
 use lib.Dec.{eqb}
-use borrow.Author.Tests.{not-true, not-false, lt-ltb, le-ltb, eq-eqb, ne_eqb}
+use borrow.Author.Tests.{ltb-false, eq-eqb, ne_eqb}
 use Rattle.lists.specs.Eat.{eat}
 use Rattle.lists.specs.Steps.{PutIf, Ends}
 use Rattle.lists.proofs.Bools.{by_test, on_cond}
@@ -21,18 +21,27 @@ use Rattle.ucd.specs.Properties.{is_white_space}
 use Rattle.characters.specs.Text.{byte_length, left}
 use Rattle.characters.proofs.Text.{point_at, left_end, bytes_chars}
 use Rattle.characters.proofs.Valid.{width_some}
-use Rattle.text.specs.Answer.{Answered, done, unknown_selector, room_too_small, longest, check_text}
+use Rattle.text.specs.Answer.{done, room_too_small, longest, check_text}
 use Rattle.text.specs.Steps.{Entered}
 use Rattle.text.proofs.Checks.{accepted}
 use Rattle.text.proofs.Room as room
-use Rattle.unescape.specs.declared.escapes.Escape.{Escape}
+use Rattle.std.specs.Prelude.{Some, None, Result, Ok, Err}
+use Rattle.text.specs.declared.Refusal.{Refusal}
+use Rattle.text.specs.declared.Refusal.TheVariants.{UnknownSelector}
+use Rattle.text.specs.Refusals.{given as told, refused}
+use Rattle.text.proofs.Checks.{never_done}
+use Rattle.modes.specs.declared.Mode.{Mode}
+use Rattle.modes.specs.declared.Mode.TheVariants as kind
+use Rattle.modes.specs.declared.errors.EscapeError.{EscapeError}
+use Rattle.modes.specs.declared.errors.EscapeError.TheVariants as bad
+use Rattle.modes.specs.Numbers.{mode_number}
 use Rattle.unescape.specs.declared.bodies.Step.{Step}
-use Rattle.modes.specs.Modes.{is_raw, is_single, characters_should_be_ascii, byte_mode}
+use Rattle.modes.specs.Modes.{is_raw, is_single, characters_should_be_ascii, byte_mode, known_mode}
 use Rattle.modes.specs.Errors.{Outcome, error}
 use Rattle.unescape.specs.Escapes.{escape}
 use Rattle.unescape.specs.Bodies.{Item, given, char_or_byte, str_char, raw_char, is_skipped, saw_lf, item, one, unskipped, skipped, slashed, str_common, raw_str, turn, turns, items, items_of, flat}
-use Rattle.unescape.specs.Steps.{end_of, step_of, Scanned, on_first, Stepped, item_words, Walked, StoredItems}
-use Rattle.unescape.specs.Promises.{answer_of, listed, Unescaped, part, single}
+use Rattle.unescape.specs.Steps.{ascii_only, Scanned, on_first, Stepped, item_from, space_from, item_words, writes, Walked, StoredItems}
+use Rattle.unescape.specs.Promises.{answer_of, listed, Unescaped, part, single, read_one}
 use Rattle.unescape.proofs.Fair.{allows_any, escape_fair}
 use Rattle.unescape.proofs.Turns.{place_of}
 
@@ -43,30 +52,22 @@ unfolding flat
 length_flat [] = refl
 length_flat (i ∷ is) = omega (arith, length_flat is)
 
+nothing : (l : List ℕ) → length l ≡ 0 → l ≡ []
+nothing [] e = refl
+nothing (x ∷ l) e = absurd (omega (arith, e))
+
 flat_append : (a b : List Item) → flat (a ++ b) ≡ flat a ++ flat b
 unfolding flat
 flat_append [] b = refl
 flat_append (i ∷ a) b = rw (flat_append a b)
 
-flat_given : (b : Bool) (i : Item) → flat (given b i) ≡ item_words b i.start i.end i.outcome
+flat_item : (start end : ℕ) (read : Result ℕ EscapeError) → flat (item_from start (Some read) end) ≡ item_words start end read
 unfolding flat
-flat_given true i = refl
-flat_given false i = refl
+flat_item start end read = refl
 
--- ---- one item stored
-module _ (write some : Bool) {list : List ℕ} (n start end outcome : ℕ) where
-  pub put_none : {r : ℕ} → not some ≡ true → r ≡ 3 * n → PutIf write list (3 * n) (item_words some start end outcome) list r
-  put_none t e = rw (not-true some t) (record { same = by_test write (λ h. rw h) (λ h. rw h); next = omega arith })
-
-  pub put_count : {r : ℕ} → not some ≡ false → not write ≡ true → r ≡ 3 * (n + 1) → PutIf write list (3 * n) (item_words some start end outcome) list r
-  put_count t w e = rw (not-false some t, not-true write w) (record { same = refl; next = omega arith })
-
-  pub put_store : {r : ℕ} {list' : List ℕ} → not some ≡ false → not write ≡ false → list' ≡ set (set (set list (3 * n) start) (3 * n + 1) end) (3 * n + 2) outcome → r ≡ 3 * (n + 1) →
-      PutIf write list (3 * n) (item_words some start end outcome) list' r
-  put_store t w e f =
-      rw (not-false some t, not-false write w) (record { same = e ∙ rw (add-one, add-two); next = omega arith })
-
-pub ruleset putting = (put_none, put_count, put_store)
+flat_space : (start past : ℕ) → flat (space_from start (Some past)) ≡ item_words start past (Err bad.UnskippedWhitespaceWarning)
+unfolding flat
+flat_space start past = refl
 
 -- ---- one turn takes at least its first character, and gives no more items than it takes bytes
 pub record Turned (c : ℕ) (t : List ℕ) (x : List Item × List ℕ) : Type 0 where
@@ -138,168 +139,194 @@ unfolding items_of items
 few_bytes mode s h = rw h (omega (arith, few_turns mode (length s) (chars s), bytes_chars s))
 
 -- ---- the walk
-pub record Walking (mode : ℕ) (s : List ℕ) (write : Bool) (list₀ : List ℕ) (at n : ℕ) (list : List ℕ) : Type 0 where
+pub record Walking (mode : ℕ) (s list₀ : List ℕ) (at n : ℕ) (list : List ℕ) : Type 0 where
   pub within : at ≤ length s
-  pub storing : Storing (flat (turns mode (length s) (chars s))) write list₀ (flat (turns mode (length s) (left s at))) (3 * n) list
+  pub storing : Storing (flat (turns mode (length s) (chars s))) (writes list₀) list₀ (flat (turns mode (length s) (left s at))) (3 * n) list
 
 -- in the middle of a turn: its second item is to come
-pub record Half (mode : ℕ) (s : List ℕ) (write : Bool) (list₀ : List ℕ) (at : ℕ) (r : Step) (n : ℕ) (list : List ℕ) : Type 0 where
-  pub storing : Storing (flat (turns mode (length s) (chars s))) write list₀ (item_words r.space at r.past 1114133 ++ flat (turns mode (length s) (left s r.at))) (3 * n) list
+pub record Half (mode : ℕ) (s list₀ : List ℕ) (at : ℕ) (r : Step) (n : ℕ) (list : List ℕ) : Type 0 where
+  pub storing : Storing (flat (turns mode (length s) (chars s))) (writes list₀) list₀ (flat (space_from at r.space) ++ flat (turns mode (length s) (left s r.at))) (3 * n) list
 
-pub walking_none : (mode : ℕ) (s : List ℕ) (write : Bool) (list : List ℕ) → Walking mode s write list 0 0 list
-walking_none mode s write list = record { within = omega arith; storing = storing_none (flat (turns mode (length s) (chars s))) write list }
+pub walking_none : (mode : ℕ) (s list : List ℕ) → Walking mode s list 0 0 list
+walking_none mode s list = record { within = omega arith; storing = storing_none (flat (turns mode (length s) (chars s))) (writes list) list }
+
+-- a list stays as long as it was
+put_as : (list₀ : List ℕ) {list list' vs : List ℕ} {k k' : ℕ} → length list ≡ length list₀ → PutIf (writes list) list k vs list' k' → PutIf (writes list₀) list k vs list' k'
+put_as list₀ e p = rw e at p
 
 module _ (mode : ℕ) {s : List ℕ} {at : ℕ} {r : Step} (h : at < length s) (q : Stepped (on_first (turn mode (length s)) (left s at)) s at r) where
   -- the words of the turn at the front
-  front : flat (turns mode (length s) (left s at)) ≡ item_words r.some at r.at r.outcome ++ (item_words r.space at r.past 1114133 ++ flat (turns mode (length s) (left s r.at)))
+  front : flat (turns mode (length s) (left s at)) ≡ flat (item_from at r.item r.at) ++ (flat (space_from at r.space) ++ flat (turns mode (length s) (left s r.at)))
   front =
       let x = on_first (turn mode (length s)) (left s at) in
-      let a : Item = record { start = at; end = r.at; outcome = r.outcome } in
-      let b : Item = record { start = at; end = r.past; outcome = 1114133 } in
       let e : turns mode (length s) (left s at) ≡ x.0 ++ turns mode (length s) x.1 = rw (point_at s at h).view (turns_cons mode (length s) _ _) in
       ap flat e ∙ flat_append x.0 (turns mode (length s) x.1)
-      ∙ rw (q.gives, ← q.place.there, flat_append (given r.some a) (given r.space b), flat_given r.some a, flat_given r.space b) (append_assoc (item_words r.some at r.at r.outcome) (item_words r.space at r.past 1114133) (flat (turns mode (length s) (left s r.at))))
+      ∙ rw (q.gives, ← q.place.there, flat_append (item_from at r.item r.at) (space_from at r.space)) (append_assoc (flat (item_from at r.item r.at)) (flat (space_from at r.space)) (flat (turns mode (length s) (left s r.at))))
 
-  module _ {write : Bool} {list₀ list : List ℕ} {n : ℕ} (w : Walking mode s write list₀ at n list) where
-    pub walk_first : {n' : ℕ} {list' : List ℕ} → PutIf write list (3 * n) (item_words r.some at r.at r.outcome) list' (3 * n') → Half mode s write list₀ at r n' list'
-    walk_first p = record { storing = storing_on (rw front at w.storing) p }
+  module _ {list₀ : List ℕ} {list : List ℕ} {n : ℕ} (w : Walking mode s list₀ at n list) where
+    -- the first item, or none
+    pub walk_item : {read : Result ℕ EscapeError} {n' : ℕ} {list' : List ℕ} → r.item ≡ Some read → PutIf (writes list) list (3 * n) (item_words at r.at read) list' (3 * n') → Half mode s list₀ at r n' list'
+    walk_item {read} k p =
+        record { storing = storing_on (rw (front, k, flat_item at r.at read) at w.storing) (put_as list₀ w.storing.long p) }
 
-    pub walk_room : (write ≡ true → length (flat (turns mode (length s) (chars s))) ≤ length list₀) → write ≡ true → r.some ≡ true → 3 * n + 3 ≤ length list
-    walk_room k t e =
-        let f : length (flat (turns mode (length s) (left s at))) ≡ 3 + length (item_words r.space at r.past 1114133 ++ flat (turns mode (length s) (left s r.at))) = ap length front ∙ rw e (omega arith) in
-        omega (arith, k t, w.storing.count, w.storing.long, f)
+    pub walk_no_item : r.item ≡ None → Half mode s list₀ at r n list
+    unfolding flat
+    walk_no_item k = record { storing = rw (front, k) at w.storing }
 
-  module _ {write : Bool} {list₀ list : List ℕ} {n : ℕ} (w : Half mode s write list₀ at r n list) where
-    pub walk_second : {n' : ℕ} {list' : List ℕ} → PutIf write list (3 * n) (item_words r.space at r.past 1114133) list' (3 * n') → Walking mode s write list₀ r.at n' list'
-    walk_second p = record { within = q.place.within; storing = storing_on w.storing p }
+    pub walk_room : {read : Result ℕ EscapeError} → (0 < length list₀ → length (flat (turns mode (length s) (chars s))) ≤ length list₀) → r.item ≡ Some read → 0 < length list → 3 * n + 3 ≤ length list
+    walk_room {read} k e t =
+        let rest = flat (space_from at r.space) ++ flat (turns mode (length s) (left s r.at)) in
+        let f : length (flat (turns mode (length s) (left s at))) ≡ 3 + length rest = ap length front ∙ rw (e, flat_item at r.at read) (omega arith) in
+        omega (arith, k (omega (arith, w.storing.long)), w.storing.count, w.storing.long, f)
 
-    pub half_room : (write ≡ true → length (flat (turns mode (length s) (chars s))) ≤ length list₀) → write ≡ true → r.space ≡ true → 3 * n + 3 ≤ length list
-    half_room k t e =
-        let m : length (item_words r.space at r.past 1114133) ≡ 3 = rw e in
-        omega (arith, k t, w.storing.count, w.storing.long, m, length-append (item_words r.space at r.past 1114133) (flat (turns mode (length s) (left s r.at))))
+  module _ {list₀ list : List ℕ} {n : ℕ} (w : Half mode s list₀ at r n list) where
+    -- the second, or none
+    pub walk_space : {past n' : ℕ} {list' : List ℕ} → r.space ≡ Some past → PutIf (writes list) list (3 * n) (item_words at past (Err bad.UnskippedWhitespaceWarning)) list' (3 * n') → Walking mode s list₀ r.at n' list'
+    walk_space {past} k p =
+        record { within = q.place.within; storing = storing_on (rw (k, flat_space at past) at w.storing) (put_as list₀ w.storing.long p) }
 
-module _ {mode : ℕ} {s list₀ list : List ℕ} {write : Bool} {at n : ℕ} where
-  pub walk_few : Walking mode s write list₀ at n list → n ≤ length s
+    pub walk_no_space : r.space ≡ None → Walking mode s list₀ r.at n list
+    unfolding flat
+    walk_no_space k = record { within = q.place.within; storing = rw k at w.storing }
+
+    pub half_room : {past : ℕ} → (0 < length list₀ → length (flat (turns mode (length s) (chars s))) ≤ length list₀) → r.space ≡ Some past → 0 < length list → 3 * n + 3 ≤ length list
+    half_room {past} k e t =
+        let rest = flat (turns mode (length s) (left s r.at)) in
+        let f : length (flat (space_from at r.space) ++ rest) ≡ 3 + length rest = rw (e, flat_space at past) (omega arith) in
+        omega (arith, k (omega (arith, w.storing.long)), w.storing.count, w.storing.long, f)
+
+module _ {mode : ℕ} {s list₀ list : List ℕ} {at n : ℕ} where
+  pub walk_few : Walking mode s list₀ at n list → n ≤ length s
   walk_few w =
       omega (arith, w.storing.count, length_flat (turns mode (length s) (chars s)), few_turns mode (length s) (chars s), bytes_chars s)
 
-  pub half_few : {r : Step} → Half mode s write list₀ at r n list → n ≤ length s
+  pub half_few : {r : Step} → Half mode s list₀ at r n list → n ≤ length s
   half_few w =
       omega (arith, w.storing.count, length_flat (turns mode (length s) (chars s)), few_turns mode (length s) (chars s), bytes_chars s)
 
-  pub walk_end : Walking mode s write list₀ at n list → length s ≤ at → Walked (turns mode (length s) (chars s)) write list₀ n list
+  pub walk_end : Walking mode s list₀ at n list → length s ≤ at → Walked (turns mode (length s) (chars s)) list₀ n list
   unfolding flat
   walk_end w h =
       let z : flat (turns mode (length s) (left s at)) ≡ [] = ap (λ (l : List ℕ). flat (turns mode (length s) l)) (left_end s at h) ∙ (rw (turns_nil mode (length s))) in
       let e = storing_end (rw z at w.storing) in
       record { count = omega (arith, e.0, length_flat (turns mode (length s) (chars s))); words = e.1 }
 
-pub ruleset walking = (walking_none, walk_first, walk_second, walk_end)
-
 -- ---- Char and Byte
-pub single_within : (ascii_only : Bool) {s : List ℕ} {read : Escape} {r : Step} → Scanned (char_or_byte ascii_only) s 0 read → r ≡ step_of read → r.at ≤ length s
-single_within ascii_only q e = rw e q.place.within
-
-pub single_walked : (ascii_only write : Bool) {s list list' : List ℕ} {read : Escape} {r : Step} {n : ℕ} → Scanned (char_or_byte ascii_only) s 0 read → r ≡ step_of read →
-    PutIf write list (3 * 0) (item_words true 0 r.at r.outcome) list' (3 * n) → Walked (one (length s) (chars s) (char_or_byte ascii_only (chars s))).0 write list n list'
+pub single_walked : (ascii_only : Bool) {s s' list list' : List ℕ} {read : Result ℕ EscapeError} {end n : ℕ} → Scanned (char_or_byte ascii_only) s 0 read s' end →
+    PutIf (writes list) list (3 * 0) (item_words 0 end read) list' (3 * n) → Walked (one (length s) (chars s) (char_or_byte ascii_only (chars s))).0 list n list'
 unfolding flat
-single_walked ascii_only write {s} {read = read} q e p =
-    let x = char_or_byte ascii_only (chars s) in
+single_walked ascii_only {s} {end = end} q p =
     record {
       count = omega (arith, p.next);
-      words = p.same ∙ rw (e, ← q.what, ← q.place.there, place_of s (end_of read) q.place.within, place_of s 0 (omega arith));
+      words = p.same ∙ rw (← q.what, ← q.place.there, place_of s end q.place.within, place_of s 0 (omega arith));
     }
 
-pub single_room : (mode : ℕ) (s list : List ℕ) {b : Bool} → b ≡ is_single mode → b ≡ true → length (flat (items_of mode s)) ≤ length list → 3 ≤ length list
-unfolding items_of items flat
-single_room mode s list o t h =
-    let k : is_single mode ≡ true = sym o ∙ t in
-    rw k at h
+-- of the two, Byte has characters that should be ASCII
+single_ascii : (m : Mode) → is_single (mode_number m) ≡ true → eqb (mode_number m) byte_mode ≡ ascii_only m
+unfolding is_single characters_should_be_ascii
+single_ascii kind.Char h = refl
+single_ascii kind.Str h = absurd (false≢true h)
+single_ascii kind.Byte h = refl
+single_ascii kind.BitStr h = absurd (false≢true h)
+single_ascii kind.ByteStr h = absurd (false≢true h)
+single_ascii kind.RawStr h = absurd (false≢true h)
+single_ascii kind.RawByteStr h = absurd (false≢true h)
 
-pub turns_room : (mode : ℕ) (s list : List ℕ) {b : Bool} → b ≡ is_single mode → b ≡ false → length (flat (items_of mode s)) ≤ length list → length (flat (turns mode (length s) (chars s))) ≤ length list
-unfolding items_of items
-turns_room mode s list o t h =
-    let k : is_single mode ≡ false = sym o ∙ t in
-    rw k at h
+module _ (m : Mode) (s list : List ℕ) {b : Bool} (o : b ≡ is_single (mode_number m)) where
+  pub single_room : b ≡ true → (0 < length list → length (flat (items_of (mode_number m) s)) ≤ length list) → 0 < length list → 3 ≤ length list
+  unfolding items_of items flat
+  single_room t h l = let k : is_single (mode_number m) ≡ true = sym o ∙ t in let g = h l in rw k at g
 
-module _ (mode : ℕ) (s : List ℕ) {write : Bool} {list list' : List ℕ} {n : ℕ} {b : Bool} (o : b ≡ is_single mode) where
-  pub walked_single : {x : Bool} → b ≡ true → x ≡ eqb mode byte_mode → Walked (one (length s) (chars s) (char_or_byte x (chars s))).0 write list n list' → Walked (items_of mode s) write list n list'
+  pub turns_room : b ≡ false → (0 < length list → length (flat (items_of (mode_number m) s)) ≤ length list) → 0 < length list → length (flat (turns (mode_number m) (length s) (chars s))) ≤ length list
   unfolding items_of items
-  walked_single t e w = rw (sym o ∙ t, ← e) w
+  turns_room t h l = let k : is_single (mode_number m) ≡ false = sym o ∙ t in let g = h l in rw k at g
 
-  pub walked_turns : b ≡ false → Walked (turns mode (length s) (chars s)) write list n list' → Walked (items_of mode s) write list n list'
-  unfolding items_of items
-  walked_turns t w = rw (sym o ∙ t) w
+  module _ {list' : List ℕ} {n : ℕ} where
+    pub walked_single : b ≡ true → Walked (one (length s) (chars s) (char_or_byte (ascii_only m) (chars s))).0 list n list' → Walked (items_of (mode_number m) s) list n list'
+    unfolding items_of items
+    walked_single t w = let k : is_single (mode_number m) ≡ true = sym o ∙ t in rw (k, single_ascii m k) w
+
+    pub walked_turns : b ≡ false → Walked (turns (mode_number m) (length s) (chars s)) list n list' → Walked (items_of (mode_number m) s) list n list'
+    unfolding items_of items
+    walked_turns t w = rw (sym o ∙ t) w
 
 -- ---- the answer of a body that passed the checks
-module _ {all : List Item} {list list' : List ℕ} {n number also : ℕ} where
-  stored : Walked all true list n list' → n ≤ length list / 3 → number ≡ done → also ≡ n → StoredItems all list number also list'
-  stored w l k a = room.stored_all w.count l (omega (arith, length_flat all, w.count)) w.words k a
+module _ {all : List Item} {list list' : List ℕ} {n : ℕ} (w : Walked all list n list') where
+  -- in an empty list that is enough, nothing is to be stored
+  written : n ≤ length list / 3 → list' ≡ sets list 0 (flat all)
+  written l =
+      w.words ∙ by_test (writes list) (λ t. rw t refl)
+      (λ f.
+      let z : length list ≡ 0 = omega (arith, ltb-false 0 (length list) f) in
+      let e : flat all ≡ [] = nothing (flat all) (omega (arith, length_flat all, w.count)) in
+      rw (f, e) refl)
 
-  pub stored_short : Walked all false list n list' → length list' / 3 < n → number ≡ room_too_small → also ≡ n → StoredItems all list number also list'
-  stored_short w l k a =
-      let h : length list / 3 < n = rw w.words at l in
-      room.stored_none w.count h w.words k a
+  stored : n ≤ length list / 3 → StoredItems all list done n list'
+  stored l = room.stored_all w.count l (omega (arith, length_flat all, w.count)) (written l) refl refl
 
-module _ {all : List Item} {list list' : List ℕ} {n number also : ℕ} where
-  pub stored_twice : {m : ℕ} {list'' : List ℕ} → Walked all false list n list' → n ≤ length list' / 3 → Walked all true list' m list'' → number ≡ done → also ≡ n → StoredItems all list number also list''
-  stored_twice {m} {list''} v l w k a =
-      let e : list' ≡ list = v.words in
-      let w' : Walked all true list m list'' = rw e at w in
-      let h : n ≤ length list / 3 = rw e at l in
-      stored w' (omega (arith, v.count, w.count, h)) k (omega (arith, v.count, w.count))
+-- by what was counted
+module _ {all : List Item} {none none' : List ℕ} {n : ℕ} (v : Walked all none n none') (list : List ℕ) where
+  pub stored_short : length list / 3 < n → StoredItems all list room_too_small n list
+  stored_short l = room.stored_none v.count l refl refl refl
 
-pub stored_all : (mode : ℕ) (s : List ℕ) {list list' : List ℕ} {n number also : ℕ} → Walked (items_of mode s) true list n list' → length s < length list / 3 → number ≡ done → also ≡ n → StoredItems (items_of mode s) list number also list'
-stored_all mode s w l k a = stored w (omega (arith, w.count, few_items mode s)) k a
+  pub room_counted : n ≤ length list / 3 → length (flat all) ≤ length list
+  room_counted l = omega (arith, length_flat all, v.count, l)
+
+  pub stored_twice : n ≤ length list / 3 → {m : ℕ} {list' : List ℕ} → Walked all list m list' → StoredItems all list done m list'
+  stored_twice l w = stored w (omega (arith, v.count, w.count))
+
+pub stored_all : (mode : ℕ) (s : List ℕ) {list list' : List ℕ} {n : ℕ} → Walked (items_of mode s) list n list' → length s < length list / 3 → StoredItems (items_of mode s) list done n list'
+stored_all mode s w l = stored w (omega (arith, w.count, few_items mode s))
 
 pub room_enough : (mode : ℕ) (s list : List ℕ) → length s < length list / 3 → length (flat (items_of mode s)) ≤ length list
 room_enough mode s list l = omega (arith, length_flat (items_of mode s), few_items mode s)
 
-pub room_counted : {all : List Item} {list list' : List ℕ} {n : ℕ} → Walked all false list n list' → n ≤ length list' / 3 → length (flat all) ≤ length list'
-room_counted {all} w l = omega (arith, length_flat all, w.count, l)
-
-pub not_writing : {A : Type 0} → false ≡ true → A
-not_writing e = absurd (false≢true e)
-
 -- ---- the whole
-module _ {s list list' : List ℕ} {mode number also : ℕ} where
-  pub unescaped_unknown : 7 ≤ mode → number ≡ unknown_selector → also ≡ 0 → list' ≡ list → Unescaped s mode list number also list'
+mode_known : (m : Mode) → known_mode (mode_number m) ≡ true
+mode_known kind.Char = refl
+mode_known kind.Str = refl
+mode_known kind.Byte = refl
+mode_known kind.BitStr = refl
+mode_known kind.ByteStr = refl
+mode_known kind.RawStr = refl
+mode_known kind.RawByteStr = refl
+
+module _ {s list : List ℕ} {mode : ℕ} where
+  pub unescaped_unknown : {r : Refusal} {x : Result ℕ Refusal} → x ≡ Err r → (r ≡ UnknownSelector) × (known_mode mode ≡ false) → Unescaped s mode list (told x).0 (told x).1 list
   unfolding answer_of listed
-  unescaped_unknown h n a e =
-      let k = le-ltb mode 7 h in
-      record { answer = rw k (record { number_is = n; also_is = a }); words = rw k e }
+  unescaped_unknown e k =
+      rw (e, k.0) (record { answer = rw k.1 (record { number_is = refl; also_is = refl }); words = rw k.1 refl })
 
-  module _ (h : mode < 7) {n₀ a₀ : ℕ} (c : Answered (check_text s) n₀ a₀) where
-    behind : Entered (check_text s) (length list / 3) (length (items_of mode s)) (flat (items_of mode s)) list number also list' → Unescaped s mode list number also list'
+  module _ (m : Mode) (h : mode_number m ≡ mode) {list' : List ℕ} where
+    behind : {number also : ℕ} → Entered (check_text s) (length list / 3) (length (items_of mode s)) (flat (items_of mode s)) list number also list' → Unescaped s mode list number also list'
     unfolding answer_of listed
-    behind e = let k = lt-ltb mode 7 h in record { answer = rw k e.answer; words = rw k e.memory }
+    behind e = let k : known_mode mode ≡ true = rw (← h) (mode_known m) in record { answer = rw k e.answer; words = rw k e.memory }
 
-    pub unescaped_refused : (n₀ ≡ done → ⊥) → number ≡ n₀ → also ≡ a₀ → list' ≡ list → Unescaped s mode list number also list'
-    unescaped_refused x n a e =
-        behind (room.refused (record { number_is = n ∙ c.number_is; also_is = a ∙ c.also_is }) (λ z. x (sym n ∙ z)) e)
+    pub unescaped_refused : {r : Refusal} {x : Result ℕ Refusal} → x ≡ Err r → refused r ≡ check_text s → list' ≡ list → Unescaped s mode list (told x).0 (told x).1 list'
+    unescaped_refused {r} e c k =
+        rw e (behind (room.refused (record { number_is = ap (λ (x : ℕ × ℕ). x.0) c; also_is = ap (λ (x : ℕ × ℕ). x.1) c }) (never_done r) k))
 
-    pub unescaped_done : n₀ ≡ done → StoredItems (items_of mode s) list number also list' → Unescaped s mode list number also list'
-    unescaped_done x r = behind (room.passed c x r)
+    pub unescaped_done : {number also : ℕ} → (done, 0) ≡ check_text s → StoredItems (items_of (mode_number m) s) list number also list' → Unescaped s mode list number also list'
+    unescaped_done c q =
+        behind (room.passed (record { number_is = ap (λ (x : ℕ × ℕ). x.0) c; also_is = ap (λ (x : ℕ × ℕ). x.1) c }) refl (rw h at q))
 
-pub text_short : (s : List ℕ) {n a : ℕ} → Answered (check_text s) n a → n ≡ done → length s ≤ longest
-text_short s c z = (accepted s (sym c.number_is ∙ z)).short
+pub text_short : (s : List ℕ) → (done, 0) ≡ check_text s → length s ≤ longest
+text_short s c = (accepted s (ap (λ (x : ℕ × ℕ). x.0) (sym c))).short
 
 -- ---- the single answers
-module _ (ascii_only : Bool) (s : List ℕ) {n₀ a₀ number also : ℕ} (c : Answered (check_text s) n₀ a₀) where
-  pub single_refused : (n₀ ≡ done → ⊥) → number ≡ n₀ → also ≡ a₀ → Answered (single ascii_only s) number also
+module _ (ascii_only : Bool) (s : List ℕ) where
+  pub single_refused : {r : Refusal} {x : Result (Result ℕ EscapeError) Refusal} → x ≡ Err r → refused r ≡ check_text s → read_one x ≡ single ascii_only s
   unfolding single
-  single_refused x n a =
-      let z : eqb (check_text s).0 done ≡ false = ne_eqb _ _ (λ y. x (c.number_is ∙ y)) in
-      rw z (record { number_is = n ∙ c.number_is; also_is = a ∙ c.also_is })
+  single_refused {r} e c =
+      let z : eqb (check_text s).0 done ≡ false = ne_eqb _ _ (λ y. never_done r (ap (λ (x : ℕ × ℕ). x.0) c ∙ y)) in
+      rw (e, z) c
 
-  pub single_done : {read : Escape} {r : Step} → n₀ ≡ done → Scanned (char_or_byte ascii_only) s 0 read → r ≡ step_of read → number ≡ done → also ≡ r.outcome → Answered (single ascii_only s) number also
+  pub single_done : {read : Result ℕ EscapeError} {s' : List ℕ} {end : ℕ} → (done, 0) ≡ check_text s → Scanned (char_or_byte ascii_only) s 0 read s' end → read_one (Ok read) ≡ single ascii_only s
   unfolding single
-  single_done x q e n a =
-      let z : eqb (check_text s).0 done ≡ true = eq-eqb _ _ (sym c.number_is ∙ x) in
-      rw z (record { number_is = n; also_is = a ∙ ap (λ (r : Step). r.outcome) e ∙ rw q.what })
+  single_done c q =
+      let z : eqb (check_text s).0 done ≡ true = eq-eqb _ _ (ap (λ (x : ℕ × ℕ). x.0) (sym c)) in
+      rw (z, q.what) refl
 
-pub part_is : (s : List ℕ) (from to : ℕ) {start end mode number also : ℕ} {list list' : List ℕ} → end ≡ min to (length s) → start ≡ min from end → Unescaped (take (end - start) (drop start s)) mode list number also list' →
+pub part_is : (s : List ℕ) (from to : ℕ) {mode number also : ℕ} {list list' : List ℕ} → Unescaped (take (min to (length s) - min from (min to (length s))) (drop (min from (min to (length s))) s)) mode list number also list' →
     Unescaped (part s from to) mode list number also list'
-part_is s from to {start} {end} e f q =
-    let g : part s from to ≡ take (end - start) (drop start s) = rw (f, e) in
-    rw g q
+part_is s from to q = q

@@ -1,11 +1,15 @@
 -- What the entries answer, and what `unescape_literal` leaves in the list that it was lent.
 -- Assumes nothing.
-use Rattle.std.specs.Prelude.{ℕ, ◌-◌, ◌/◌, min, ◌≡◌, Bool, cond, List, eqb, length, take, drop}
+use Rattle.std.specs.Prelude.{ℕ, ◌-◌, ◌/◌, min, ◌≡◌, Bool, cond, List, eqb, length, take, drop, Result, Ok, Err}
 use Rattle.lists.specs.Over.{over}
 use Rattle.characters.specs.Utf8.{chars}
 use Rattle.text.specs.Answer.{Answered, done, check_text, check_room, ◌and_then◌}
+use Rattle.text.specs.declared.Refusal.{Refusal}
+use Rattle.text.specs.Refusals.{refused}
+use Rattle.modes.specs.declared.errors.EscapeError.{EscapeError}
 use Rattle.modes.specs.Modes.{check_mode}
 use Rattle.modes.specs.Errors.{number}
+use Rattle.unescape.specs.Steps.{outcome_of}
 use Rattle.unescape.specs.Bodies.{char_or_byte, items_of, flat}
 
 -- ---- unescape_literal
@@ -33,3 +37,8 @@ part s from to =
 -- ---- unescape_char and unescape_byte: the outcome, as an item has it
 unfoldable pub single : Bool → List ℕ → ℕ × ℕ
 single is_byte s = check_text s and_then (done, number (char_or_byte is_byte (chars s)).0)
+
+-- what such an entry tells
+abbrev pub read_one : Result (Result ℕ EscapeError) Refusal → ℕ × ℕ
+read_one (Ok read) = (done, number (outcome_of read))
+read_one (Err r) = refused r

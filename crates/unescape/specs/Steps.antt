@@ -1,55 +1,64 @@
 -- What the unescaper's own functions answer, by the places that they reach.
 -- Assumes nothing.
-use Rattle.std.specs.Prelude.{ℕ, ◌/◌, ◌≤◌, ◌<◌, ◌≡◌, Bool, true, false, cond, List, [], ◌∷◌, ◌++◌, length}
+use Rattle.std.specs.Prelude.{ℕ, ◌/◌, ◌≤◌, ◌<◌, ◌≡◌, Bool, cond, ltb, List, [], ◌∷◌, ◌++◌, length, Option, Some, None, IfSome, MatchOption, Result, Ok, Err}
 use Rattle.std.proofs.lemmas.List.Edits.{sets}
-use Rattle.characters.specs.Steps.{Place}
+use Rattle.characters.specs.Steps.{Place, Ate}
 use Rattle.characters.specs.Text.{left}
 use Rattle.text.specs.Steps.{Stored}
-use Rattle.unescape.specs.declared.escapes.Escape.{Escape}
-use Rattle.unescape.specs.declared.escapes.Escape.TheVariants.{Value, Error}
 use Rattle.unescape.specs.declared.bodies.Step.{Step}
+use Rattle.modes.specs.declared.Mode.{Mode}
+use Rattle.modes.specs.declared.errors.EscapeError.{EscapeError}
+use Rattle.modes.specs.Modes.{characters_should_be_ascii}
+use Rattle.modes.specs.Numbers.{mode_number, error_number}
 use Rattle.modes.specs.Errors.{Outcome, char, error, number, unskipped_whitespace_warning}
-use Rattle.unescape.specs.Bodies.{Item, given, flat}
+use Rattle.unescape.specs.Escapes.{to_digit}
+use Rattle.unescape.specs.Bodies.{Item, flat}
 
--- ---- the answer of a scanner: what it says, and the place behind it
-abbrev pub result_of : Escape → Outcome
-result_of (Value c end) = char c
-result_of (Error e end) = error e
+-- ---- the answer of a scanner
+-- what was read, as an outcome
+abbrev pub outcome_of : Result ℕ EscapeError → Outcome
+outcome_of (Ok c) = char c
+outcome_of (Err e) = error (error_number e)
 
-abbrev pub end_of : Escape → ℕ
-end_of (Value c end) = end
-end_of (Error e end) = end
+-- whether the characters of a mode should be ASCII
+abbrev pub ascii_only : Mode → Bool
+ascii_only m = characters_should_be_ascii (mode_number m)
 
-abbrev pub value_of : Escape → ℕ
-value_of (Value c end) = c
-value_of (Error e end) = 0
+-- the value of a digit; none of any other character
+abbrev pub is_digit : ℕ → Option ℕ → Type 0
+is_digit c r = MatchOption r (16 ≡ to_digit c) (λ d. (d ≡ to_digit c) × (d < 16))
 
-abbrev pub error_of : Escape → ℕ
-error_of (Value c end) = 0
-error_of (Error e end) = e
+-- a scanner that began at a place of s and ended at a place of s', by the definition that it follows
+pub record Scanned (f : List ℕ → Outcome × List ℕ) (s : List ℕ) (at : ℕ) (r : Result ℕ EscapeError) (s' : List ℕ) (end : ℕ) : Type 0 where
+  pub same : s' ≡ s
+  pub what : outcome_of r ≡ (f (left s at)).0
+  pub place : Place s at end (f (left s at)).1
 
--- an outcome with the place behind it
-abbrev pub escape_at : Outcome → ℕ → Escape
-escape_at (char c) end = Value c end
-escape_at (error e) end = Error e end
-
--- a scanner at a place, by the definition that it follows
-pub record Scanned (f : List ℕ → Outcome × List ℕ) (s : List ℕ) (at : ℕ) (r : Escape) : Type 0 where
-  pub what : result_of r ≡ (f (left s at)).0
-  pub place : Place s at (end_of r) (f (left s at)).1
+-- the same of one that eats while p holds
+pub record AteOn {S : Type 0} (p : ℕ → Bool) (g : S → ℕ → S) (s : List ℕ) (at₀ : ℕ) (x₀ : S) (s' : List ℕ) (at : ℕ) (x : S) : Type 0 where
+  pub same : s' ≡ s
+  pub ate : Ate p g s at₀ x₀ at x
 
 -- ---- one turn over a body
+-- its items
+abbrev pub item_from : ℕ → Option (Result ℕ EscapeError) → ℕ → List Item
+item_from start None end = []
+item_from start (Some read) end = record { start = start; end = end; outcome = number (outcome_of read) } ∷ []
+
+abbrev pub space_from : ℕ → Option ℕ → List Item
+space_from start None = []
+space_from start (Some past) = record { start = start; end = past; outcome = number (error unskipped_whitespace_warning) } ∷ []
+
 -- the turn of one scan
-abbrev pub step_of : Escape → Step
-step_of r = record { at = end_of r; some = true; outcome = number (result_of r); space = false; past = end_of r }
+abbrev pub step_of : Result ℕ EscapeError → ℕ → Step
+step_of read end = record { at = end; item = Some read; space = None }
 
 -- a turn at a place, where its items start, by the items and what is left behind it
 pub record Stepped (x : List Item × List ℕ) (s : List ℕ) (at : ℕ) (r : Step) : Type 0 where
-  pub gives : x.0 ≡ given r.some (record { start = at; end = r.at; outcome = r.outcome })
-      ++ given r.space (record { start = at; end = r.past; outcome = number (error unskipped_whitespace_warning) })
+  pub gives : x.0 ≡ item_from at r.item r.at ++ space_from at r.space
   pub place : Place s at r.at x.1
   pub onward : at < r.at
-  pub inside : r.past ≤ length s
+  pub inside : IfSome r.space (λ past. past ≤ length s)
 
 -- the part of a turn behind `at`, wherever before that the turn starts: g says what it gives, by what is left at the start
 abbrev pub Behind : (List ℕ → List Item × List ℕ) → List ℕ → ℕ → Step → Type 0
@@ -61,14 +70,18 @@ on_first f [] = ([], [])
 on_first f (c ∷ t) = f c t
 
 -- ---- the items of a whole body
--- the words of one item, where there is one
-abbrev pub item_words : Bool → ℕ → ℕ → ℕ → List ℕ
-item_words some start end outcome = cond some (start ∷ end ∷ outcome ∷ []) []
+-- the words of one item
+abbrev pub item_words : ℕ → ℕ → Result ℕ EscapeError → List ℕ
+item_words start end read = start ∷ end ∷ number (outcome_of read) ∷ []
 
--- one walk over a body, which counts its items, and stores them where it is told to
-pub record Walked (all : List Item) (write : Bool) (list : List ℕ) (n : ℕ) (list' : List ℕ) : Type 0 where
+-- a list that is not empty is written
+abbrev pub writes : List ℕ → Bool
+writes list = ltb 0 (length list)
+
+-- one walk over a body, which counts its items, and stores them in a list that is not empty
+pub record Walked (all : List Item) (list : List ℕ) (n : ℕ) (list' : List ℕ) : Type 0 where
   pub count : n ≡ length all
-  pub words : list' ≡ cond write (sets list 0 (flat all)) list
+  pub words : list' ≡ cond (writes list) (sets list 0 (flat all)) list
 
 -- the answer for a body that passed the checks, and the list
 abbrev pub StoredItems : List Item → List ℕ → ℕ → ℕ → List ℕ → Type 0

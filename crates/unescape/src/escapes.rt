@@ -1,36 +1,24 @@
 // Escapes: what stands behind a backslash.
-ghost use Rattle.std.specs.Prelude.{◌≡◌, ◌≤◌, ◌<◌, length};
-ghost use Rattle.characters.specs.Steps.{Ate};
-ghost use Rattle.unescape.specs.Escapes.{to_digit, hex_digit, hex_escape, first_digit, or_underscore, count_digit, valued, add_digit, code_point, closing, braced, unicode_escape, simple, escape, ascii_check};
-ghost use Rattle.unescape.specs.Steps.{escape_at, value_of, Scanned};
+ghost use Rattle.std.specs.Prelude.{◌≡◌, cond, ltb, ◌+◌, ◌*◌, ◌<◌, IfOk};
+ghost use Rattle.unescape.specs.Escapes.{to_digit, hex_digit, hex_escape, first_digit, or_underscore, add_digit, code_point, closing, braced, unicode_escape, simple, escape, ascii_check};
+ghost use Rattle.unescape.specs.Steps.{outcome_of, ascii_only, is_digit, Scanned, AteOn};
 
-use characters::utf8::decode;
-use modes::errors;
+use crate::chars::Chars;
+use modes::{EscapeError, Mode};
 
-// What a scan found, a character or an error, and the place behind what it read.
-#[derive(Clone, Copy)]
-pub enum Escape {
-    Value(u32, usize),
-    Error(u32, usize),
-}
-
-// The digits of `\u{..}`: how many, the value of the first six, and the place behind them. No text has so many that the count
-// wraps.
+// The digits of `\u{..}`: how many, and the value of the first six.
 #[derive(Clone, Copy)]
 struct Digits {
     count: usize,
     value: u32,
-    at: usize,
 }
 
-// What is no digit.
-const NO_DIGIT: u32 = 16;
-
-// The value of a hexadecimal digit, by its range. All three are asked, so that no jump depends on the digit, which cannot be guessed.
-fn to_digit(c: u32) -> u32
-    ensures { result ≡ to_digit c }
+// The value of a hexadecimal digit, by its range. All three are asked, so that no jump depends on the digit, which cannot be guessed; so the value
+// of what is no digit is 16 until then.
+fn to_digit(c: u32) -> Option<u32>
+    ensures { is_digit c result }
 {
-    let mut value = NO_DIGIT;
+    let mut value = 16;
     if (0x30 <= c) & (c <= 0x39) {
         value = c - 0x30;
     }
@@ -40,228 +28,163 @@ fn to_digit(c: u32) -> u32
     if (0x61 <= c) & (c <= 0x66) {
         value = c - 0x61 + 10;
     }
-    value
+    (value < 16).then_some(value)
 }
 
 // The escapes of one character.
-pub fn simple(c: u32, end: usize) -> Escape
-    ensures { result ≡ escape_at (simple c) end }
+#[tactic(auto, unfolding(crate::specs::Escapes::simple))]
+pub fn simple(c: u32) -> Result<u32, EscapeError>
+    ensures { outcome_of result ≡ simple c }
 {
     match c {
-        0x22 => Escape::Value(0x22, end),
-        0x6E => Escape::Value(0x0A, end),
-        0x72 => Escape::Value(0x0D, end),
-        0x74 => Escape::Value(0x09, end),
-        0x5C => Escape::Value(0x5C, end),
-        0x27 => Escape::Value(0x27, end),
-        0x30 => Escape::Value(0x00, end),
-        _ => Escape::Error(errors::INVALID_ESCAPE, end),
+        0x22 => Ok(0x22),
+        0x6E => Ok(0x0A),
+        0x72 => Ok(0x0D),
+        0x74 => Ok(0x09),
+        0x5C => Ok(0x5C),
+        0x27 => Ok(0x27),
+        0x30 => Ok(0x00),
+        _ => Err(EscapeError::InvalidEscape),
     }
 }
 
-fn hex_digit(text: &[u8], at: usize) -> Escape
-    requires { at ≤ length text.now }
-    ensures { (Scanned hex_digit text.now at result) × (value_of result < 16) }
+fn hex_digit(chars: &mut Chars<'_>) -> Result<u32, EscapeError>
+    ensures { (Scanned hex_digit chars.old.text.now chars.old.at result chars.new.text.now chars.new.at) × IfOk result (λ v. v < 16) }
 {
-    if text.len() <= at {
-        return Escape::Error(errors::TOO_SHORT_HEX_ESCAPE, at);
-    }
-    let d = decode(text, at);
-    let digit = to_digit(d.code);
-    if NO_DIGIT <= digit {
-        return Escape::Error(errors::INVALID_CHAR_IN_HEX_ESCAPE, at + d.wide);
-    }
-    Escape::Value(digit, at + d.wide)
+    let c = chars.next().ok_or(EscapeError::TooShortHexEscape)?;
+    to_digit(c).ok_or(EscapeError::InvalidCharInHexEscape)
 }
 
 // Behind `\x`: two digits.
-pub fn scan_hex(text: &[u8], at: usize) -> Escape
-    requires { at ≤ length text.now }
-    ensures { Scanned hex_escape text.now at result }
+pub fn scan_hex(chars: &mut Chars<'_>) -> Result<u32, EscapeError>
+    ensures { Scanned hex_escape chars.old.text.now chars.old.at result chars.new.text.now chars.new.at }
 {
-    let first = hex_digit(text, at);
-    let Escape::Value(hi, next) = first else {
-        return first;
-    };
-    let second = hex_digit(text, next);
-    let Escape::Value(lo, end) = second else {
-        return second;
-    };
-    Escape::Value(hi * 16 + lo, end)
+    let hi = hex_digit(chars)?;
+    let lo = hex_digit(chars)?;
+    Ok(hi * 16 + lo)
 }
 
 // Behind a backslash.
-pub fn scan_escape(text: &[u8], at: usize, ascii_only: bool) -> Escape
-    requires { at ≤ length text.now }
-    ensures { Scanned (escape ascii_only) text.now at result }
+pub fn scan_escape(chars: &mut Chars<'_>, mode: Mode) -> Result<u32, EscapeError>
+    ensures { Scanned (escape (ascii_only mode)) chars.old.text.now chars.old.at result chars.new.text.now chars.new.at }
 {
-    if text.len() <= at {
-        return Escape::Error(errors::LONE_SLASH, at);
+    match chars.next().ok_or(EscapeError::LoneSlash)? {
+        0x78 => scan_hex(chars),
+        0x75 => scan_unicode(chars, mode),
+        c => simple(c),
     }
-    let d = decode(text, at);
-    let next = at + d.wide;
-    if d.code == 0x78 {
-        return scan_hex(text, next);
-    }
-    if d.code == 0x75 {
-        return scan_unicode(text, next, ascii_only);
-    }
-    simple(d.code, next)
 }
 
 // The first digit of `\u{..}`.
-fn first_digit(text: &[u8], at: usize) -> Escape
-    requires { at ≤ length text.now }
-    ensures { (Scanned first_digit text.now at result) × (value_of result < 16) }
+fn first_digit(chars: &mut Chars<'_>) -> Result<u32, EscapeError>
+    ensures { (Scanned first_digit chars.old.text.now chars.old.at result chars.new.text.now chars.new.at) × IfOk result (λ v. v < 16) }
 {
-    if text.len() <= at {
-        return Escape::Error(errors::UNCLOSED_UNICODE_ESCAPE, at);
+    match chars.next().ok_or(EscapeError::UnclosedUnicodeEscape)? {
+        0x5F => Err(EscapeError::LeadingUnderscoreUnicodeEscape),
+        0x7D => Err(EscapeError::EmptyUnicodeEscape),
+        c => to_digit(c).ok_or(EscapeError::InvalidCharInUnicodeEscape),
     }
-    let d = decode(text, at);
-    let next = at + d.wide;
-    if d.code == 0x5F {
-        return Escape::Error(errors::LEADING_UNDERSCORE_UNICODE_ESCAPE, next);
-    }
-    if d.code == 0x7D {
-        return Escape::Error(errors::EMPTY_UNICODE_ESCAPE, next);
-    }
-    let digit = to_digit(d.code);
-    if NO_DIGIT <= digit {
-        return Escape::Error(errors::INVALID_CHAR_IN_UNICODE_ESCAPE, next);
-    }
-    Escape::Value(digit, next)
 }
 
-// By the character and what it is worth.
-fn is_digit_or_underscore(c: u32, digit: u32) -> bool
-    requires { digit ≡ to_digit c }
-    ensures { result ≡ or_underscore c }
-{
-    if c == 0x5F {
-        return true;
-    }
-    digit < NO_DIGIT
-}
-
-fn count_digit(count: usize, c: u32) -> usize
-    requires { count < 18446744073709551615 }
-    ensures { result ≡ count_digit count c }
-{
-    if c == 0x5F {
-        return count;
-    }
-    count + 1
-}
-
-// From the seventh digit on the value is no longer asked for, and so it stays below 2^24.
-fn add_digit(count: usize, value: u32, c: u32, digit: u32) -> u32
-    requires { (digit ≡ to_digit c) × (count < 6 → value < 1048576) }
-    ensures { result ≡ valued count value c }
-{
-    if c == 0x5F {
-        return value;
-    }
-    if 6 <= count {
-        return value;
-    }
-    value * 16 + digit
-}
-
-// Behind a first digit, byte by byte: only ASCII is a digit.
-fn more_digits(text: &[u8], from: usize, first: u32) -> Digits
-    requires { (from ≤ length text.now) × (first < 16) }
-    ensures { Ate or_underscore add_digit text.now from (1, first) result.at (result.count, result.value) }
-{
-    let mut at = from;
-    let mut count: usize = 1;
-    let mut value = first;
-    while at < text.len() {
-        let b = text[at];
-        let c = b as u32;
-        let digit = to_digit(c);
-        if !is_digit_or_underscore(c, digit) {
-            return Digits { count, value, at };
+impl Digits {
+    // One digit more. From the seventh on the value is no longer asked for, and so it stays below 2^24.
+    fn and(self, digit: u32) -> Digits
+        requires { (self.count < 18446744073709551615) × (digit < 16) × (self.count < 6 → self.value < 1048576) }
+        ensures { result ≡ record { count = self.count + 1; value = cond (ltb self.count 6) (self.value * 16 + digit) self.value } }
+    {
+        Digits {
+            count: self.count + 1,
+            value: if self.count < 6 {
+                self.value * 16 + digit
+            } else {
+                self.value
+            },
         }
-        value = add_digit(count, value, c, digit);
-        count = count_digit(count, c);
-        at = at + 1;
     }
-    Digits { count, value, at }
+}
+
+// Behind a first digit, byte by byte: only ASCII is a digit. No text has so many that the count wraps.
+fn more_digits(chars: &mut Chars<'_>, first: u32) -> Digits
+    requires { first < 16 }
+    ensures { AteOn or_underscore add_digit chars.old.text.now chars.old.at (1, first) chars.new.text.now chars.new.at (result.count, result.value) }
+{
+    let mut digits = Digits {
+        count: 1,
+        value: first,
+    };
+    for (i, b) in chars.text[chars.at..].iter().enumerate() {
+        let c = *b as u32;
+        if c == 0x5F {
+            continue;
+        }
+        let Some(digit) = to_digit(c) else {
+            chars.at += i;
+            return digits;
+        };
+        digits = digits.and(digit);
+    }
+    chars.at = chars.text.len();
+    digits
 }
 
 // Wrong syntax comes before a value that the literal can't hold.
-fn code_point(count: usize, value: u32, end: usize, ascii_only: bool) -> Escape
-    ensures { result ≡ escape_at (code_point ascii_only count value) end }
+#[tactic(auto, unfolding(crate::specs::Escapes::code_point, characters::specs::Utf8::is_scalar))]
+fn code_point(digits: Digits, mode: Mode) -> Result<u32, EscapeError>
+    ensures { outcome_of result ≡ code_point (ascii_only mode) digits.count digits.value }
 {
-    if 6 < count {
-        return Escape::Error(errors::OVERLONG_UNICODE_ESCAPE, end);
+    if 6 < digits.count {
+        return Err(EscapeError::OverlongUnicodeEscape);
     }
-    if ascii_only {
-        return Escape::Error(errors::UNICODE_ESCAPE_IN_BYTE, end);
+    if mode.is_unicode_escape_disallowed() {
+        return Err(EscapeError::UnicodeEscapeInByte);
     }
-    if 0x10FFFF < value {
-        return Escape::Error(errors::OUT_OF_RANGE_UNICODE_ESCAPE, end);
+    match digits.value {
+        0..=0xD7FF | 0xE000..=0x10FFFF => Ok(digits.value),
+        0xD800..=0xDFFF => Err(EscapeError::LoneSurrogateUnicodeEscape),
+        _ => Err(EscapeError::OutOfRangeUnicodeEscape),
     }
-    if value < 0xD800 {
-        return Escape::Value(value, end);
-    }
-    if 0xE000 <= value {
-        return Escape::Value(value, end);
-    }
-    Escape::Error(errors::LONE_SURROGATE_UNICODE_ESCAPE, end)
 }
 
 // Behind the digits of `\u{..}`.
-fn closing_brace(text: &[u8], at: usize, count: usize, value: u32, ascii_only: bool) -> Escape
-    requires { at ≤ length text.now }
-    ensures { Scanned (closing ascii_only (count, value)) text.now at result }
+fn closing_brace(
+    chars: &mut Chars<'_>,
+    digits: Digits,
+    mode: Mode,
+) -> Result<u32, EscapeError>
+    ensures { Scanned (closing (ascii_only mode) (digits.count, digits.value)) chars.old.text.now chars.old.at result chars.new.text.now chars.new.at }
 {
-    if text.len() <= at {
-        return Escape::Error(errors::UNCLOSED_UNICODE_ESCAPE, at);
+    match chars.next().ok_or(EscapeError::UnclosedUnicodeEscape)? {
+        0x7D => code_point(digits, mode),
+        _ => Err(EscapeError::InvalidCharInUnicodeEscape),
     }
-    let d = decode(text, at);
-    let next = at + d.wide;
-    if d.code != 0x7D {
-        return Escape::Error(errors::INVALID_CHAR_IN_UNICODE_ESCAPE, next);
-    }
-    code_point(count, value, next, ascii_only)
 }
 
 // Behind `\u{`.
-fn scan_braced(text: &[u8], at: usize, ascii_only: bool) -> Escape
-    requires { at ≤ length text.now }
-    ensures { Scanned (braced ascii_only) text.now at result }
+fn scan_braced(chars: &mut Chars<'_>, mode: Mode) -> Result<u32, EscapeError>
+    ensures { Scanned (braced (ascii_only mode)) chars.old.text.now chars.old.at result chars.new.text.now chars.new.at }
 {
-    let first = first_digit(text, at);
-    let Escape::Value(digit, next) = first else {
-        return first;
-    };
-    let more = more_digits(text, next, digit);
-    closing_brace(text, more.at, more.count, more.value, ascii_only)
+    let first = first_digit(chars)?;
+    let digits = more_digits(chars, first);
+    closing_brace(chars, digits, mode)
 }
 
 // Behind `\u`.
-pub fn scan_unicode(text: &[u8], at: usize, ascii_only: bool) -> Escape
-    requires { at ≤ length text.now }
-    ensures { Scanned (unicode_escape ascii_only) text.now at result }
+pub fn scan_unicode(chars: &mut Chars<'_>, mode: Mode) -> Result<u32, EscapeError>
+    ensures { Scanned (unicode_escape (ascii_only mode)) chars.old.text.now chars.old.at result chars.new.text.now chars.new.at }
 {
-    let d = decode(text, at);
-    let next = at + d.wide;
-    if d.code != 0x7B {
-        return Escape::Error(errors::NO_BRACE_IN_UNICODE_ESCAPE, next);
+    match chars.next().ok_or(EscapeError::NoBraceInUnicodeEscape)? {
+        0x7B => scan_braced(chars, mode),
+        _ => Err(EscapeError::NoBraceInUnicodeEscape),
     }
-    scan_braced(text, next, ascii_only)
 }
 
 // A character that stands for itself.
-pub fn ascii_check(c: u32, end: usize, ascii_only: bool) -> Escape
-    ensures { result ≡ escape_at (ascii_check ascii_only c) end }
+#[tactic(auto, unfolding(crate::specs::Escapes::ascii_check))]
+pub fn ascii_check(c: u32, mode: Mode) -> Result<u32, EscapeError>
+    ensures { outcome_of result ≡ ascii_check (ascii_only mode) c }
 {
-    if !ascii_only {
-        return Escape::Value(c, end);
+    if 0x80 <= c && mode.characters_should_be_ascii() {
+        return Err(EscapeError::NonAsciiCharInByte);
     }
-    if c < 0x80 {
-        return Escape::Value(c, end);
-    }
-    Escape::Error(errors::NON_ASCII_CHAR_IN_BYTE, end)
+    Ok(c)
 }

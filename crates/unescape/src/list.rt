@@ -1,109 +1,98 @@
 // The list of items of a whole body, three words for each.
-ghost use Rattle.std.specs.Prelude.{◌≡◌, true, ◌+◌, ◌*◌, ◌≤◌, length};
+ghost use Rattle.std.specs.Prelude.{◌≡◌, ◌+◌, ◌*◌, ◌≤◌, ◌<◌, length};
 ghost use Rattle.lists.specs.Steps.{PutIf};
 ghost use Rattle.characters.specs.Utf8.{chars};
 ghost use Rattle.text.specs.Answer.{longest};
+ghost use Rattle.text.specs.Refusals.{given};
+ghost use Rattle.modes.specs.Errors.{number};
+ghost use Rattle.modes.specs.Numbers.{mode_number};
 ghost use Rattle.unescape.specs.Bodies.{char_or_byte, one, turns, items_of, flat};
-ghost use Rattle.unescape.specs.Steps.{item_words, Walked, StoredItems};
+ghost use Rattle.unescape.specs.Steps.{outcome_of, ascii_only, item_words, writes, Walked, StoredItems};
 
-use crate::bodies::{item, turn, unescape_char_or_byte};
+use crate::bodies::{turn, unescape_char_or_byte};
+use crate::chars::Chars;
 use characters::utf8::NO_CHAR;
-use modes::errors;
-use text::Answer;
+use modes::{EscapeError, Mode};
+use text::Refusal;
 
-// One item, where there is one, stored where `write` says so: how many there are then.
-fn put(
-    list: &mut [u32],
-    write: bool,
-    n: usize,
-    some: bool,
-    start: usize,
-    end: usize,
-    outcome: u32,
-) -> usize
-    requires { (n ≤ longest) × (start ≤ longest) × (end ≤ longest) × (write ≡ true → some ≡ true → 3 * n + 3 ≤ length list.old) }
-    ensures { PutIf write list.old (3 * n) (item_words some start end outcome) list.new (3 * result) }
+// The number that stands for what was read: the code point, or 1,114,112 more than the error's.
+pub fn outcome(read: Result<u32, EscapeError>) -> u32
+    ensures { result ≡ number (outcome_of read) }
 {
-    if !some {
-        return n;
+    match read {
+        Ok(code) => code,
+        Err(error) => NO_CHAR + error.number(),
     }
-    if !write {
+}
+
+// The n-th item stored, but in an empty list: how many there are then.
+fn put(list: &mut [u32], n: usize, start: usize, end: usize, read: Result<u32, EscapeError>) -> usize
+    requires { (n ≤ longest) × (start ≤ longest) × (end ≤ longest) × (0 < length list.old → 3 * n + 3 ≤ length list.old) }
+    ensures { PutIf (writes list.old) list.old (3 * n) (item_words start end read) list.new (3 * result) }
+{
+    if list.len() == 0 {
         return n + 1;
     }
     let k = 3 * n;
     list[k] = start as u32;
     list[k + 1] = end as u32;
-    list[k + 2] = outcome;
+    list[k + 2] = outcome(read);
     n + 1
 }
 
 // The one item of a body of Char or Byte.
-fn walk_single(body: &[u8], is_byte: bool, write: bool, list: &mut [u32]) -> usize
-    requires { (length body.now ≤ longest) × (write ≡ true → 3 ≤ length list.old) }
-    ensures { Walked (one (length body.now) (chars body.now) (char_or_byte is_byte (chars body.now))).0 write list.old result list.new }
+fn walk_single(body: &[u8], mode: Mode, list: &mut [u32]) -> usize
+    requires { (length body.now ≤ longest) × (0 < length list.old → 3 ≤ length list.old) }
+    ensures { Walked (one (length body.now) (chars body.now) (char_or_byte (ascii_only mode) (chars body.now))).0 list.old result list.new }
 {
-    let s = item(unescape_char_or_byte(body, is_byte));
-    put(list, write, 0, true, 0, s.at, s.outcome)
+    let mut chars = Chars { text: body, at: 0 };
+    let read = unescape_char_or_byte(&mut chars, mode);
+    put(list, 0, 0, chars.at, read)
 }
 
 // The items of a body of any other mode.
-fn walk_turns(body: &[u8], mode: u32, write: bool, list: &mut [u32]) -> usize
-    requires { (length body.now ≤ longest) × (write ≡ true → length (flat (turns mode (length body.now) (chars body.now))) ≤ length list.old) }
-    ensures { Walked (turns mode (length body.now) (chars body.now)) write list.old result list.new }
+fn walk_turns(body: &[u8], mode: Mode, list: &mut [u32]) -> usize
+    requires { (length body.now ≤ longest) × (0 < length list.old → length (flat (turns (mode_number mode) (length body.now) (chars body.now))) ≤ length list.old) }
+    ensures { Walked (turns (mode_number mode) (length body.now) (chars body.now)) list.old result list.new }
 {
     let mut at: usize = 0;
     let mut n: usize = 0;
     while at < body.len() {
-        let s = turn(body, at, mode);
-        n = put(list, write, n, s.some, at, s.at, s.outcome);
-        n = put(
-            list,
-            write,
-            n,
-            s.space,
-            at,
-            s.past,
-            NO_CHAR + errors::UNSKIPPED_WHITESPACE_WARNING,
-        );
-        at = s.at;
+        let step = turn(body, at, mode);
+        if let Some(read) = step.item {
+            n = put(list, n, at, step.at, read);
+        }
+        if let Some(past) = step.space {
+            n = put(list, n, at, past, Err(EscapeError::UnskippedWhitespaceWarning));
+        }
+        at = step.at;
     }
     n
 }
 
-// Counts the items, and stores them where `write` says so.
-fn walk(body: &[u8], mode: u32, write: bool, list: &mut [u32]) -> usize
-    requires { (length body.now ≤ longest) × (write ≡ true → length (flat (items_of mode body.now)) ≤ length list.old) }
-    ensures { Walked (items_of mode body.now) write list.old result list.new }
+// The items of a body: how many there are. They are stored, but in an empty list.
+fn walk(body: &[u8], mode: Mode, list: &mut [u32]) -> usize
+    requires { (length body.now ≤ longest) × (0 < length list.old → length (flat (items_of (mode_number mode) body.now)) ≤ length list.old) }
+    ensures { Walked (items_of (mode_number mode) body.now) list.old result list.new }
 {
-    if modes::is_single(mode) {
-        return walk_single(body, mode == modes::BYTE, write, list);
+    if mode.is_single() {
+        return walk_single(body, mode, list);
     }
-    walk_turns(body, mode, write, list)
+    walk_turns(body, mode, list)
 }
 
 // For a body that passed the checks. There are no more items than bytes, but for the one of an empty body of Char or Byte; so a list
 // that has room for more than that cannot be short, and nothing is counted first.
-pub fn store(body: &[u8], mode: u32, list: &mut [u32]) -> Answer
+pub fn store(body: &[u8], mode: Mode, list: &mut [u32]) -> Result<usize, Refusal>
     requires { length body.now ≤ longest }
-    ensures { StoredItems (items_of mode body.now) list.old result.number result.also list.new }
+    ensures { StoredItems (items_of (mode_number mode) body.now) list.old (given result).0 (given result).1 list.new }
 {
     if body.len() < list.len() / 3 {
-        let n = walk(body, mode, true, list);
-        return Answer {
-            number: text::DONE,
-            also: n as u64,
-        };
+        return Ok(walk(body, mode, list));
     }
-    let n = walk(body, mode, false, list);
-    if list.len() / 3 < n {
-        return Answer {
-            number: text::ROOM_TOO_SMALL,
-            also: n as u64,
-        };
+    let need = walk(body, mode, &mut []);
+    if list.len() / 3 < need {
+        return Err(Refusal::RoomTooSmall(need));
     }
-    walk(body, mode, true, list);
-    Answer {
-        number: text::DONE,
-        also: n as u64,
-    }
+    Ok(walk(body, mode, list))
 }

@@ -1,15 +1,16 @@
-use Rattle.unescape.proofs.Whole.{unescaped_unknown, unescaped_refused, unescaped_done, text_short}
 use borrow.Author.Rules.{rules}
+use mathlib.Core.Path.{refl}
+use Rattle.unescape.proofs.Whole.{unescaped_unknown, unescaped_refused, unescaped_done, text_short}
 use Rattle.unescape.proofs.unescape_literal.Goals as goal
 
-pub returns-then-mode-ge-MODES : goal.returns-then-mode-ge-MODES
-returns-then-mode-ge-MODES c = search (rules, unescaped_unknown)
+pub returns-in_err-mode : goal.returns-in_err-mode
+returns-in_err-mode c = unescaped_unknown (search rules) c.in_err-mode.ensures
 
-pub returns-then-checked-ne-DONE : goal.returns-then-checked-ne-DONE
-returns-then-checked-ne-DONE c = search (rules, unescaped_refused)
+pub returns-in_err-check_text : goal.returns-in_err-check_text
+returns-in_err-check_text c = unescaped_refused _ c.in_ok-mode.ensures (search rules) c.in_err-check_text.ensures refl
 
 pub store-requires : goal.store-requires
-store-requires c = search (rules, text_short)
+store-requires c = text_short _ c.in_ok-check_text.ensures
 
 pub returns : goal.returns
-returns c = search (rules, unescaped_done)
+returns c = unescaped_done _ c.in_ok-mode.ensures c.in_ok-check_text.ensures c.store.ensures

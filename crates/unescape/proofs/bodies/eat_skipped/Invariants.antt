@@ -1,12 +1,13 @@
 use Rattle.unescape.specs.Bodies.{is_skipped, saw_lf}
-use Rattle.characters.specs.Steps.{Eating}
-use lib.ListN.{length}
+use Rattle.characters.proofs.Ascii.{Going}
 use mathlib.Core.Bool.{false}
-use Prim.Native.Nat.{◌-◌}
+use mathlib.Core.Path.{◌≡◌}
+use Prim.Native.Nat.{◌+◌}
 use Rattle.unescape.proofs.bodies.eat_skipped.Given as goal
 
-abbrev pub invariant-loop-at : goal.invariant-loop-at
-invariant-loop-at l = Eating is_skipped saw_lf l.text l.from false l.at l.lines
-
-abbrev pub decreases-loop-at : goal.decreases-loop-at
-decreases-loop-at l = length l.text - l.at
+abbrev pub invariant-loop-i : goal.invariant-loop-i
+invariant-loop-i l = record {
+  same : l.chars.text.now ≡ l.initial.chars.text.now;
+  from : l.chars.at ≡ l.initial.chars.at;
+  going : Going is_skipped saw_lf l.initial.chars.text.now l.initial.chars.at false (l.initial.chars.at + l.i) l.lines;
+}

@@ -1,42 +1,32 @@
-use Rattle.unescape.proofs.Escaping.{scanning}
-use Rattle.unescape.proofs.Turns.{turning, hex_few, unicode_few, simple_few}
+use Rattle.unescape.proofs.Turns.{slash_none, slash_skip, slash_hex, slash_unicode, slash_simple}
 use Rattle.characters.proofs.Text.{decoded_fits}
 use native.Mathlib.Omega.{arith}
-use borrow.Author.Rules.{rules}
 use Rattle.unescape.proofs.bodies.slash.Goals as goal
 
 pub returns-then-text-at : goal.returns-then-text-at
-returns-then-text-at c = search (rules, turning)
+returns-then-text-at c = slash_none _ c.if-text-at.true c.requires c.item.ensures
 
 pub overflow_add-next : goal.overflow_add-next
 overflow_add-next c = omega (arith, decoded_fits)
 
-pub skip_ascii_whitespace-requires : goal.skip_ascii_whitespace-requires
-skip_ascii_whitespace-requires c = omega (arith, decoded_fits)
+pub invariant_of-skip_ascii_whitespace : goal.invariant_of-skip_ascii_whitespace
+invariant_of-skip_ascii_whitespace c = record { within = omega (arith, decoded_fits) }
 
-pub returns-then-d-eq10 : goal.returns-then-d-eq10
-returns-then-d-eq10 c = search (rules, turning)
+pub invariant_of-chars : goal.invariant_of-chars
+invariant_of-chars c = record { within = omega (arith, decoded_fits) }
 
-pub scan_hex-requires : goal.scan_hex-requires
-scan_hex-requires c = omega (arith, decoded_fits)
+pub invariant_of-chars-in-117 : goal.invariant_of-chars-in-117
+invariant_of-chars-in-117 c = record { within = omega (arith, decoded_fits) }
 
-pub item-requires-then-d-eq120 : goal.item-requires-then-d-eq120
-item-requires-then-d-eq120 c = search (rules, hex_few)
+pub returns-in-10 : goal.returns-in-10
+returns-in-10 c = slash_skip _ c.decode-d.ensures c.if-text-at.false c.in-10.is c.skip_ascii_whitespace.ensures
 
-pub returns-then-d-eq120 : goal.returns-then-d-eq120
-returns-then-d-eq120 c = search (rules, turning, scanning)
+pub returns-in-120 : goal.returns-in-120
+returns-in-120 c = slash_hex _ c.decode-d.ensures c.if-text-at.false c.in-120.is c.scan_hex.ensures c.item-in-120.ensures
 
-pub scan_unicode-requires : goal.scan_unicode-requires
-scan_unicode-requires c = omega (arith, decoded_fits)
+pub returns-in-117 : goal.returns-in-117
+returns-in-117 c = slash_unicode _ c.decode-d.ensures c.if-text-at.false c.in-117.is c.scan_unicode.ensures c.item-in-117.ensures
 
-pub item-requires-then-d-eq117 : goal.item-requires-then-d-eq117
-item-requires-then-d-eq117 c = search (rules, unicode_few)
-
-pub returns-then-d-eq117 : goal.returns-then-d-eq117
-returns-then-d-eq117 c = search (rules, turning, scanning)
-
-pub item-requires-2 : goal.item-requires-2
-item-requires-2 c = search (rules, simple_few)
-
-pub returns : goal.returns
-returns c = search (rules, turning, scanning)
+pub returns-in_default : goal.returns-in_default
+returns-in_default c =
+    slash_simple _ c.decode-d.ensures c.if-text-at.false (λ e. omega arith) (λ e. omega arith) (λ e. omega arith) c.simple.ensures c.item-in_default.ensures

@@ -1,26 +1,18 @@
-use Rattle.unescape.proofs.Turns.{char_none, char_error, char_more, char_alone}
-use Rattle.characters.proofs.Text.{decoded_fits}
-use native.Mathlib.Omega.{arith}
 use borrow.Author.Rules.{rules}
+use mathlib.Core.Path.{refl}
+use Rattle.unescape.proofs.Turns.{char_none, char_error, char_more, char_alone}
 use Rattle.unescape.proofs.bodies.unescape_char_or_byte.Goals as goal
 
-pub returns-then-text-eq0 : goal.returns-then-text-eq0
-returns-then-text-eq0 c = search (rules, char_none)
+pub returns-in_err-c : goal.returns-in_err-c
+returns-in_err-c c = char_none _ c.next.ensures c.in_err-c.ensures.ok_part (search rules)
 
-pub one_char-first-requires : goal.one_char-first-requires
-one_char-first-requires c = omega (arith, decoded_fits)
+pub returns-in_err-read : goal.returns-in_err-read
+returns-in_err-read c = char_error _ c.next.ensures c.in_ok-c.ensures.ok_part c.one_char.ensures c.in_err-read.was (search rules)
 
-pub returns-in_default : goal.returns-in_default
-returns-in_default c =
-    char_error _ c.decode-d.ensures c.if-text-eq0.false c.one_char-first.ensures c.in_default.is
-
-pub overflow_add-result : goal.overflow_add-result
-overflow_add-result c = omega (arith, decoded_fits)
-
-pub returns-then-end-text : goal.returns-then-end-text
-returns-then-end-text c =
-    char_more _ c.decode-d.ensures c.if-text-eq0.false c.one_char-first.ensures c.in-Value.is c.if-end-text.true c.decode-second.ensures (search rules)
+pub returns-then-is_some : goal.returns-then-is_some
+returns-then-is_some c =
+    char_more _ c.next.ensures c.in_ok-c.ensures.ok_part c.one_char.ensures c.in_ok-read.was c.next-2.ensures (search rules) refl
 
 pub returns : goal.returns
 returns c =
-    char_alone _ c.decode-d.ensures c.if-text-eq0.false c.one_char-first.ensures c.in-Value.is c.if-end-text.false
+    char_alone _ c.next.ensures c.in_ok-c.ensures.ok_part c.one_char.ensures c.in_ok-read.was c.next-2.ensures (search rules) refl

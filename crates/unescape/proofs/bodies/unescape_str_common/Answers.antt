@@ -1,7 +1,6 @@
-use Rattle.unescape.proofs.Turns.{turning, str_few}
+use Rattle.unescape.proofs.Turns.{str_step, str_slash}
 use Rattle.characters.proofs.Text.{decoded_fits}
 use native.Mathlib.Omega.{arith}
-use borrow.Author.Rules.{rules}
 use Rattle.unescape.proofs.bodies.unescape_str_common.Goals as goal
 
 pub overflow_add-next : goal.overflow_add-next
@@ -11,10 +10,7 @@ pub slash-requires : goal.slash-requires
 slash-requires c = omega (arith, decoded_fits)
 
 pub returns-then-d-eq92 : goal.returns-then-d-eq92
-returns-then-d-eq92 c = search (rules, turning)
-
-pub item-requires : goal.item-requires
-item-requires c = search (rules, str_few)
+returns-then-d-eq92 c = str_slash c.decode-d.ensures c.requires _ c.if-d-eq92.true c.slash.ensures
 
 pub returns : goal.returns
-returns c = search (rules, turning)
+returns c = str_step c.decode-d.ensures c.requires _ c.if-d-eq92.false c.str_char.ensures c.item.ensures

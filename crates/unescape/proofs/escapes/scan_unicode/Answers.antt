@@ -1,17 +1,14 @@
-use Rattle.characters.proofs.Text.{decoded_fits}
-use Rattle.unescape.proofs.Escaping.{scanning}
 use native.Mathlib.Omega.{arith}
 use borrow.Author.Rules.{rules}
+use mathlib.Core.Path.{refl}
+use Rattle.unescape.proofs.Escaping.{unicode_none, unicode_open, unicode_bad}
 use Rattle.unescape.proofs.escapes.scan_unicode.Goals as goal
 
-pub overflow_add-next : goal.overflow_add-next
-overflow_add-next c = omega (arith, decoded_fits)
+pub returns-in_err-ok_or : goal.returns-in_err-ok_or
+returns-in_err-ok_or c = unicode_none c.next.ensures c.in_err-ok_or.ensures.ok_part _ (search rules)
 
-pub returns-then-d-ne123 : goal.returns-then-d-ne123
-returns-then-d-ne123 c = search (rules, scanning)
+pub returns-in-123 : goal.returns-in-123
+returns-in-123 c = unicode_open c.next.ensures c.in_ok-ok_or.ensures.ok_part _ c.in-123.is c.scan_braced.ensures
 
-pub scan_braced-requires : goal.scan_braced-requires
-scan_braced-requires c = omega (arith, decoded_fits)
-
-pub returns : goal.returns
-returns c = search (rules, scanning)
+pub returns-in_default : goal.returns-in_default
+returns-in_default c = unicode_bad c.next.ensures c.in_ok-ok_or.ensures.ok_part _ (λ e. omega arith) refl

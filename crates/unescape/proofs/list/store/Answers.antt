@@ -1,21 +1,14 @@
-use Rattle.unescape.proofs.Whole.{room_enough, room_counted, not_writing, stored_all, stored_short, stored_twice}
-use borrow.Author.Rules.{rules}
+use Rattle.unescape.proofs.Whole.{room_enough, room_counted, stored_all, stored_twice}
 use Rattle.unescape.proofs.list.store.Goals as goal
 
-pub walk-n-requires : goal.walk-n-requires
-walk-n-requires c = (search rules, λ t. search (rules, room_enough))
+pub walk-requires : goal.walk-requires
+walk-requires c = (c.requires, λ t. room_enough _ _ _ c.if-body-list.true)
 
 pub returns-then-body-list : goal.returns-then-body-list
-returns-then-body-list c = search (rules, stored_all)
+returns-then-body-list c = stored_all _ _ c.walk.ensures c.if-body-list.true
 
-pub walk-n-requires-2 : goal.walk-n-requires-2
-walk-n-requires-2 c = (search rules, not_writing)
-
-pub returns-then-list-n : goal.returns-then-list-n
-returns-then-list-n c = search (rules, stored_short)
-
-pub walk-requires : goal.walk-requires
-walk-requires c = (search rules, λ t. room_counted c.walk-n-2.ensures c.if-list-n.false)
+pub walk-requires-2 : goal.walk-requires-2
+walk-requires-2 c = (c.requires, λ t. room_counted c.walk-need.ensures _ c.if-list-need.false)
 
 pub returns : goal.returns
-returns c = search (rules, stored_twice)
+returns c = stored_twice c.walk-need.ensures _ c.if-list-need.false c.walk-2.ensures
