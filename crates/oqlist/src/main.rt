@@ -12,7 +12,7 @@ use std::env::FillError;
 use std::io::{Error, Read};
 use std::rt::Env;
 use std::{fmt, io};
-use text::{Answer, Refusal};
+use text::Answer;
 
 // One byte more than the program takes, so that a longer input is seen.
 const BUFFER: usize = MOST + 1;
@@ -44,8 +44,8 @@ impl fmt::Display for Records<'_> {
     }
 }
 
-fn print_refusal(rt: &impl Print, refusal: Refusal) -> io::Result<()> {
-    let Answer { number, also } = Answer::from(Err::<usize, Refusal>(refusal));
+fn print_refusal(rt: &impl Print, given: impl Into<Answer>) -> io::Result<()> {
+    let Answer { number, also } = given.into();
     println!(rt; "refused {number} {also}")
 }
 
@@ -56,11 +56,12 @@ fn list_tokens(rt: &impl Print, words: usize, first: &[u8], text: &[u8]) -> io::
             let records = Records { list: &list, count };
             print!(rt; "tokens {count}\n{records}")
         }
-        Err(refusal) => print_refusal(rt, refusal),
+        refused => print_refusal(rt, refused),
     }
 }
 
-// Standard input to its end, or as much of it as there is room for: a read that went well and gave no byte has left none of it.
+// Standard input to its end, or as much of it as there is room for: a read that went well and gave no byte has left none of it. The place moves by
+// what a read gave, so that there is no `for`.
 fn read_input<'a>(input: &mut impl Read, room: &'a mut [u8]) -> io::Result<&'a [u8]> {
     let mut len = 0;
     while len < room.len() {
@@ -88,8 +89,9 @@ fn fail<R: Eprint + Alloc>(rt: &R, what: &str, error: Error) -> io::Result<()> {
 }
 
 fn run<R: Print + Input>(rt: &R, words: usize, first: &[u8]) -> Result<(), Fault> {
-    if let Err(refusal) = check_asked(words, first) {
-        return print_refusal(rt, refusal).map_err(Fault::Output);
+    let checked = check_asked(words, first).map(|_| ());
+    if checked.is_err() {
+        return print_refusal(rt, checked).map_err(Fault::Output);
     }
     let mut room = [0u8; BUFFER];
     let text = read_input(&mut rt.reader(), &mut room).map_err(Fault::Input)?;

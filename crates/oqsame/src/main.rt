@@ -106,7 +106,8 @@ fn open<R: Files>(rt: &R, name: &[u8]) -> io::Result<R::File> {
     fs::open(rt, path)
 }
 
-// Reads until the room is full, the file ends or a read fails, and answers how many bytes it put at the start of the room.
+// Reads until the room is full, the file ends or a read fails, and answers how many bytes it put at the start of the room. The place moves by what a
+// read gave, so that there is no `for`.
 fn read_full(file: &mut impl Read, room: &mut [u8]) -> usize
     ensures { result ≤ length room.new }
 {
@@ -169,6 +170,8 @@ fn compare<'a, R: Print + Env + Files>(
     })
 }
 
+// As in oqlist, from which a program cannot take it.
+//
 // The system's words for an error, without the number that std puts behind them.
 fn words_of(whole: &str) -> &str {
     whole

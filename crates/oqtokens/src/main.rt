@@ -13,7 +13,7 @@ use std::env::FillError;
 use std::io::{Error, Read};
 use std::rt::Env;
 use std::{fmt, io};
-use text::{Answer, Refusal};
+use text::Answer;
 
 // The most bytes that are read at once.
 const CHUNK: usize = 4096;
@@ -45,8 +45,8 @@ impl fmt::Display for Records<'_> {
     }
 }
 
-fn print_refusal(rt: &impl Print, refusal: Refusal) -> io::Result<()> {
-    let Answer { number, also } = Answer::from(Err::<usize, Refusal>(refusal));
+fn print_refusal(rt: &impl Print, given: impl Into<Answer>) -> io::Result<()> {
+    let Answer { number, also } = given.into();
     println!(rt; "refused {number} {also}")
 }
 
@@ -86,6 +86,9 @@ fn list_input<R: Print + Input>(rt: &R, profile: u32) -> Result<(), Fault> {
     println!(rt; "tokens {sum}").map_err(Fault::Output)
 }
 
+// This and `fail`, `words` and `Records` stand in oqlist too: a program lends no code to another, and a library function here has a promise for every
+// input, which what the system says cannot have.
+//
 // The system's words for an error, without the number that std puts behind them.
 fn words_of(whole: &str) -> &str {
     whole
@@ -103,7 +106,7 @@ fn fail<R: Eprint + Alloc>(rt: &R, what: &str, error: Error) -> io::Result<()> {
 fn run<R: Print + Input>(rt: &R, words: usize, first: &[u8]) -> Result<(), Fault> {
     match check_asked(words, first) {
         Ok(profile) => list_input(rt, profile),
-        Err(refusal) => print_refusal(rt, refusal).map_err(Fault::Output),
+        Err(refusal) => print_refusal(rt, Err::<(), _>(refusal)).map_err(Fault::Output),
     }
 }
 
