@@ -428,8 +428,7 @@ oq3_char oq3_decode(const uint8_t *text, size_t text_len, size_t at);
 /* ---- Properties of a character ------------------------------------------------------------------------------------------------ */
 
 /*
- * Whether a character has the property in the Unicode Character Database 15.0.0. No for a number that is no Unicode scalar value. Unless c is ASCII a
- * call first copies the property's table to the stack: some 5, 6 and 1 KiB, and 80 bytes for White_Space.
+ * Whether a character has the property in the Unicode Character Database 15.0.0. No for a number that is no Unicode scalar value.
  */
 bool oq3_is_xid_start(uint32_t c);
 bool oq3_is_xid_continue(uint32_t c);
@@ -440,7 +439,7 @@ bool oq3_is_white_space(uint32_t c); /* White_Space: more than oq3_is_whitespace
 
 /*
  * A call takes less stack than this many bytes, memcpy and memset and their binding at a first call included: measured, not proved, with more than a
- * quarter to spare. Most of it is for the tables of the properties, which a call that may need them copies there.
+ * quarter to spare.
  */
 enum {
     OQ3_STACK_TOKENIZE_ROWS = 40 * 1024, /* oq3_tokenize_rows, which has oq3_tokenize count where the row may be short */
