@@ -1,7 +1,7 @@
 // Escapes: what stands behind a backslash.
-ghost use Rattle.std.specs.Prelude.{◌≡◌, cond, ltb, ◌+◌, ◌*◌, ◌<◌, IfOk};
+ghost use Rattle.std.specs.Prelude.{◌≡◌, ◌<◌, IfSome, IfOk};
 ghost use Rattle.unescape.specs.Escapes.{to_digit, hex_digit, hex_escape, first_digit, or_underscore, add_digit, code_point, closing, braced, unicode_escape, simple, escape, ascii_check};
-ghost use Rattle.unescape.specs.Steps.{outcome_of, ascii_only, is_digit, Scanned, AteOn};
+ghost use Rattle.unescape.specs.Steps.{outcome_of, ascii_only, is_digit, with_digit, Scanned, AteOn};
 
 use crate::chars::Chars;
 use modes::{EscapeError, Mode};
@@ -15,6 +15,7 @@ struct Digits {
 
 // The value of a hexadecimal digit, by its range. All three are asked, so that no jump depends on the digit, which cannot be guessed; so the value
 // of what is no digit is 16 until then.
+#[inline(always)]
 fn to_digit(c: u32) -> Option<u32>
     ensures { is_digit c result }
 {
@@ -48,6 +49,7 @@ pub fn simple(c: u32) -> Result<u32, EscapeError>
     }
 }
 
+#[inline(always)]
 fn hex_digit(chars: &mut Chars<'_>) -> Result<u32, EscapeError>
     ensures { (Scanned hex_digit chars.old.text.now chars.old.at result chars.new.text.now chars.new.at) × IfOk result (λ v. v < 16) }
 {
@@ -56,6 +58,7 @@ fn hex_digit(chars: &mut Chars<'_>) -> Result<u32, EscapeError>
 }
 
 // Behind `\x`: two digits.
+#[inline(always)]
 pub fn scan_hex(chars: &mut Chars<'_>) -> Result<u32, EscapeError>
     ensures { Scanned hex_escape chars.old.text.now chars.old.at result chars.new.text.now chars.new.at }
 {
@@ -87,11 +90,14 @@ fn first_digit(chars: &mut Chars<'_>) -> Result<u32, EscapeError>
 }
 
 impl Digits {
-    // One digit more. From the seventh on the value is no longer asked for, and so it stays below 2^24.
-    fn and(self, digit: u32) -> Digits
-        requires { (self.count < 18446744073709551615) × (digit < 16) × (self.count < 6 → self.value < 1048576) }
-        ensures { result ≡ record { count = self.count + 1; value = cond (ltb self.count 6) (self.value * 16 + digit) self.value } }
+    // With one digit more, or none. From the seventh on the value is no longer asked for, and so it stays below 2^24.
+    fn and(self, digit: Option<u32>) -> Digits
+        requires { IfSome digit (λ d. (d < 16) × (self.count < 18446744073709551615) × (self.count < 6 → self.value < 1048576)) }
+        ensures { result ≡ with_digit self digit }
     {
+        let Some(digit) = digit else {
+            return self;
+        };
         Digits {
             count: self.count + 1,
             value: if self.count < 6 {
@@ -103,7 +109,16 @@ impl Digits {
     }
 }
 
+// By the character and what it is worth.
+fn is_digit_or_underscore(c: u32, digit: Option<u32>) -> bool
+    requires { is_digit c digit }
+    ensures { result ≡ or_underscore c }
+{
+    digit.is_some() || c == 0x5F
+}
+
 // Behind a first digit, byte by byte: only ASCII is a digit. No text has so many that the count wraps.
+#[inline(always)]
 fn more_digits(chars: &mut Chars<'_>, first: u32) -> Digits
     requires { first < 16 }
     ensures { AteOn or_underscore add_digit chars.old.text.now chars.old.at (1, first) chars.new.text.now chars.new.at (result.count, result.value) }
@@ -114,13 +129,11 @@ fn more_digits(chars: &mut Chars<'_>, first: u32) -> Digits
     };
     for (i, b) in chars.text[chars.at..].iter().enumerate() {
         let c = *b as u32;
-        if c == 0x5F {
-            continue;
-        }
-        let Some(digit) = to_digit(c) else {
+        let digit = to_digit(c);
+        if !is_digit_or_underscore(c, digit) {
             chars.at += i;
             return digits;
-        };
+        }
         digits = digits.and(digit);
     }
     chars.at = chars.text.len();
@@ -146,6 +159,7 @@ fn code_point(digits: Digits, mode: Mode) -> Result<u32, EscapeError>
 }
 
 // Behind the digits of `\u{..}`.
+#[inline(always)]
 fn closing_brace(
     chars: &mut Chars<'_>,
     digits: Digits,
@@ -160,6 +174,7 @@ fn closing_brace(
 }
 
 // Behind `\u{`.
+#[inline(always)]
 fn scan_braced(chars: &mut Chars<'_>, mode: Mode) -> Result<u32, EscapeError>
     ensures { Scanned (braced (ascii_only mode)) chars.old.text.now chars.old.at result chars.new.text.now chars.new.at }
 {
@@ -169,6 +184,7 @@ fn scan_braced(chars: &mut Chars<'_>, mode: Mode) -> Result<u32, EscapeError>
 }
 
 // Behind `\u`.
+#[inline(always)]
 pub fn scan_unicode(chars: &mut Chars<'_>, mode: Mode) -> Result<u32, EscapeError>
     ensures { Scanned (unicode_escape (ascii_only mode)) chars.old.text.now chars.old.at result chars.new.text.now chars.new.at }
 {
