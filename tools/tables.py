@@ -112,7 +112,7 @@ def code_table(name, ranges):
     """The table in the code: low and high end in turn, as many in a line as `rt fmt` puts there."""
     numbers = [f"0x{end:04X}," for ends in ranges for end in ends]
     lines = textwrap.wrap(" ".join(numbers), 95)
-    return f"pub const {name}: [u32; {len(numbers)}] = [\n{''.join(f'    {line}{chr(10)}' for line in lines)}];\n"
+    return f"pub static {name}: [u32; {len(numbers)}] = [\n{''.join(f'    {line}{chr(10)}' for line in lines)}];\n"
 
 
 def specs_table(name, ranges):

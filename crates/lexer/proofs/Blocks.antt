@@ -20,6 +20,8 @@ use Rattle.characters.proofs.Text.{chars_nil, chars_first, from_place}
 use Rattle.characters.proofs.Ascii.{wide, chars_ascii}
 use Rattle.cutters.specs.Digits.{peek}
 use Rattle.lexer.specs.Cut.{not_lf, opens, closes, block, slash}
+use Rattle.cutters.specs.declared.kinds.Kind.TheVariants.{BlockComment}
+use Rattle.cutters.specs.Numbers.{kind_number}
 use Rattle.cutters.specs.Kinds.{line_comment, block_comment, unclosed_comment, slash_mark}
 use Rattle.lexer.specs.Steps.{Parted}
 use Rattle.lexer.proofs.Bytewise.{peek_same, tail_same, tail_less, peek_drop, tail_drop, stands}
@@ -183,6 +185,10 @@ module _ {s : List ℕ} where
 pub ruleset blocking = (blocking_none, block_unclosed, block_deeper, block_closed, block_shallower, block_onward)
 
 -- ---- behind a slash
+pub comment_kind : (b : Bool) → kind_number (BlockComment b) ≡ cond b block_comment unclosed_comment
+comment_kind true = refl
+comment_kind false = refl
+
 module _ {s : List ℕ} {at x : ℕ} (f : x ≡ peek (left s at)) where
   pub slash_line : {a end kind : ℕ} → x ≡ 0x2F → Place s at a (tail (left s at)) → Place s a end (skip not_lf (left s a)) → kind ≡ line_comment → Parted slash s at kind end
   unfolding slash
@@ -207,3 +213,4 @@ module _ {s : List ℕ} {at x : ℕ} (f : x ≡ peek (left s at)) where
       let h : eqb (peek (left s at)) 0x2F ≡ false = ne_eqb _ _ (λ z. n (f ∙ z)) in
       let j : eqb (peek (left s at)) 0x2A ≡ false = ne_eqb _ _ (λ z. m (f ∙ z)) in
       record { what = rw (h, j) k; place = record { after = omega arith; within = w; there = rw (h, j) } }
+

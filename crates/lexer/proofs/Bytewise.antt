@@ -1,20 +1,26 @@
 -- The loops that go byte by byte: only ASCII ends a line.
 -- Assumes nothing.
-use Prim.Native.Nat.{ℕ, zero, suc, ◌+◌, ◌≤◌, ◌<◌}
+use Prim.Native.Nat.{ℕ, zero, suc, ◌+◌, ◌-◌, ◌≤◌, ◌<◌}
 use native.Mathlib.Decide.{dec_lt}
-use native.Mathlib.Numerals.{add-one, add-two}
+use native.Mathlib.Numerals.{add-one, add-two, one-add}
 use native.Mathlib.Omega.{arith}
 use mathlib.Core.Path.{◌≡◌, refl, ap, sym, ◌∙◌}
-use mathlib.Core.Bool.{Bool, true, false, ◌&&◌, ◌||◌}
+use mathlib.Core.Bool.{Bool, true, false, not, cond, ◌&&◌, ◌||◌, false≢true}
 use mathlib.Core.List.{List, [], ◌∷◌, tail}
-use lib.ListN.{length, drop, get_or, get_or-eq_default}
-use lib.Dec.{eqb}
-use borrow.Author.Tests.{eq-eqb, ne_eqb}
+use lib.ListN.{length, drop, get_or, get_or-eq_default, length-drop}
+use lib.Seq.{drop-drop}
+use lib.Dec.{eqb, leb, ltb}
+use borrow.Author.Tests.{eq-eqb, ne_eqb, ltb-false, leb-false, lt-leb}
+use Rattle.std.proofs.Common.{get_or-drop}
+use Rattle.std.specs.Prelude.{Option, Some, None, unwrap_or}
+use Rattle.std.specs.List.{prefix_len, position_or_len}
+use Rattle.std.proofs.lemmas.List.Sums.{prefix_len-le-length, prefix_len_stops}
+use Rattle.lists.proofs.Bools.{by_test}
 use Rattle.characters.specs.Utf8.{first, chars}
-use Rattle.characters.specs.Steps.{Place, Eating}
-use Rattle.characters.specs.Text.{left, keep, skip}
-use Rattle.characters.proofs.Text.{chars_nil, chars_first}
-use Rattle.characters.proofs.Ascii.{chars_ascii, wide_code, Going, going_none, going_on, skip_halt, skip_end}
+use Rattle.characters.specs.Steps.{Place}
+use Rattle.characters.specs.Text.{left, skip}
+use Rattle.characters.proofs.Text.{chars_nil, chars_first, skip_nil, skip_more, skip_stop}
+use Rattle.characters.proofs.Ascii.{chars_ascii, wide_code, skip_bytes}
 use Rattle.cutters.specs.Digits.{peek}
 use Rattle.lexer.specs.Cut.{not_lf}
 use Rattle.lexer.specs.Steps.{Ran}
@@ -23,32 +29,57 @@ not_lf_wide : (c : ℕ) → 0x80 ≤ c → not_lf c ≡ true
 unfolding not_lf
 not_lf_wide c h = rw (ne_eqb c 0x0A (λ e. omega arith))
 
-module _ {s : List ℕ} {at₀ at b : ℕ} {f : Bool} where
-  pub line_halt : Going not_lf keep s at₀ tt at tt → b ≡ get_or s at 0 → at < length s → f ≡ not_lf b → f ≡ false → Place s at₀ at (skip not_lf (left s at₀))
-  line_halt = skip_halt not_lf_wide
+-- ---- the place that `position` finds, or else the end
+pub first_place : (t : ℕ → Bool) (l : List ℕ) {r : Option ℕ} {n : ℕ} → r ≡ cond (ltb (position_or_len t l) (length l)) (Some (position_or_len t l)) None → n ≡ unwrap_or r (length l) → n ≡ position_or_len t l
+first_place t l {r} {n} e f =
+    by_test (ltb (position_or_len t l) (length l)) (λ y. f ∙ rw (e, y))
+    (λ z. let q : r ≡ None = e ∙ rw z in f ∙ rw q (omega (arith, ltb-false _ _ z, prefix_len-le-length (λ x. not (t x)) l)))
 
--- a run of ASCII stops at the end, at what is not ASCII, or where the test fails
-module _ {p : ℕ → Bool} {s : List ℕ} {at₀ at : ℕ} (e : Eating p keep s at₀ tt at tt) where
-  ran : (at < length s → get_or s at 0 < 0x80 → p (get_or s at 0) ≡ false) → Ran p s at₀ at
-  unfolding skip
-  ran h = record { after = e.after; within = e.within; same = ap (λ (r : Unit {0} × List ℕ). r.1) e.same; stop = h }
+-- all before the first byte that fails a test is skipped
+skip_prefix : (p : ℕ → Bool) (l : List ℕ) → skip p l ≡ drop (prefix_len p l) l
+skip_prefix p [] = skip_nil p
+skip_prefix p (a ∷ l) =
+    by_test (p a) (λ t. rw (skip_more p a l t, t, one-add) (skip_prefix p l)) (λ f. rw (skip_stop p a l f, f))
 
-  pub ran_wide : {b : ℕ} → b ≡ get_or s at 0 → 0x80 ≤ b → Ran p s at₀ at
-  ran_wide v h = ran (λ l k. absurd (omega arith))
+-- a line ends at its first LF
+pub line_place : {s : List ℕ} {at n : ℕ} → at ≤ length s → n ≡ prefix_len not_lf (drop at s) → Place s at (at + n) (skip not_lf (left s at))
+line_place {s} {at} {n} l e =
+    let m : n ≤ length s - at = omega (arith, e, prefix_len-le-length not_lf (drop at s), length-drop at s) in
+    record {
+      after = omega arith;
+      within = omega (arith, l, m);
+      there = ap chars (sym (drop-drop n at s) ∙ rw e (sym (skip_prefix not_lf (drop at s)))) ∙ sym (skip_bytes not_lf not_lf_wide (drop at s));
+    }
 
-  pub ran_halt : {b : ℕ} {f : Bool} → b ≡ get_or s at 0 → f ≡ p b → f ≡ false → Ran p s at₀ at
-  ran_halt {b} {f} v t n = ran (λ l k. rw (← v) (sym t ∙ n))
+-- a run of ASCII that passes a test stops at the end, at what is not ASCII, or where the test fails
+module _ (p : ℕ → Bool) where
+  abbrev pub halts : ℕ → Bool
+  halts b = leb 0x80 b || not (p b)
 
-  pub ran_end : length s ≤ at → Ran p s at₀ at
-  ran_end l = ran (λ h k. absurd (omega arith))
+  goes : (b : ℕ) → not (halts b) ≡ true → (b < 0x80) × (p b ≡ true)
+  goes b t =
+      by_test (leb 0x80 b) (λ y. absurd (false≢true (sym (rw y) ∙ t)))
+      (λ z. by_test (p b) (λ k. (leb-false 0x80 b z, k)) (λ k. absurd (false≢true (sym (rw (z, k)) ∙ t))))
 
-pub ruleset running = (ran_wide, ran_halt, ran_end)
+  fails : (b : ℕ) → not (halts b) ≡ false → b < 0x80 → p b ≡ false
+  fails b t l = by_test (p b) (λ k. absurd (false≢true (sym t ∙ rw (k, lt-leb 0x80 b l)))) (λ k. k)
 
-module _ {s : List ℕ} {at₀ at : ℕ} where
-  pub line_end : Going not_lf keep s at₀ tt at tt → length s ≤ at → Place s at₀ at (skip not_lf (left s at₀))
-  line_end = skip_end not_lf_wide
+  skip_run : (l : List ℕ) → skip p (chars (drop (position_or_len halts l) l)) ≡ skip p (chars l)
+  skip_run [] = refl
+  skip_run (a ∷ l) =
+      by_test (not (halts a))
+      (λ t. let h = goes a t in rw (t, one-add, chars_ascii a l h.0, skip_more p a (chars l) h.1) (skip_run l))
+      (λ f. rw f)
 
-pub ruleset bytewise = (going_none, going_on, line_halt, line_end)
+  pub ran : {s : List ℕ} {at n : ℕ} → at ≤ length s → n ≡ position_or_len halts (drop at s) → Ran p s at (at + n)
+  ran {s} {at} {n} l e =
+      let m : n ≤ length s - at = omega (arith, e, prefix_len-le-length (λ b. not (halts b)) (drop at s), length-drop at s) in
+      record {
+        after = omega arith;
+        within = omega (arith, l, m);
+        same = ap (λ (t : List ℕ). skip p (chars t)) (sym (drop-drop n at s)) ∙ rw e (skip_run (drop at s));
+        stop = λ h k. fails (get_or s (at + n) 0) (ap (λ b. not (halts b)) (sym (get_or-drop at s n 0)) ∙ rw e (prefix_len_stops (λ b. not (halts b)) (drop at s) 0 (omega (arith, e, h, length-drop at s)))) k;
+      }
 
 -- ---- what is peeked, by characters and by bytes
 pub peek_same : (s : List ℕ) (k : ℕ) → k < 0x80 → eqb (peek (chars s)) k ≡ eqb (peek s) k

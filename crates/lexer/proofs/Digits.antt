@@ -4,7 +4,7 @@ use Prim.Native.Nat.{ℕ, ◌+◌, ◌*◌, ◌≤◌, ◌<◌}
 use native.Mathlib.Decide.{dec_lt}
 use native.Mathlib.Omega.{arith}
 use mathlib.Core.Path.{◌≡◌, refl, ap, sym, ◌∙◌}
-use mathlib.Core.Bool.{Bool, true, false, ◌||◌, false≢true}
+use mathlib.Core.Bool.{Bool, true, false, not, ◌||◌, false≢true}
 use mathlib.Core.List.{List, tail}
 use lib.ListN.{length, drop, get_or, length-drop}
 use lib.Dec.{eqb}
@@ -19,7 +19,7 @@ use Rattle.cutters.specs.Kinds.{int, float}
 use Rattle.lexer.specs.Unicode.{start_in, more_in}
 use Rattle.cutters.specs.Steps.{first_of}
 use Rattle.lexer.specs.Steps.{Parted, Misplaced, Run, Read, Numbered, hex_behind}
-use Rattle.lexer.proofs.Underscores.{misplaced_then, misplaced_none, peek_byte, passed, over, over_point, over_e, over_sign, found_after}
+use Rattle.lexer.proofs.Underscores.{or_placed, misplaced_then, misplaced_none, peek_byte, passed, over, over_point, over_e, over_sign, found_after}
 use Rattle.lexer.proofs.Numerals.{number_stop, own_decimal, own_hex}
 
 -- the place itself
@@ -57,35 +57,28 @@ module _ (s : List ℕ) (at : ℕ) {x : ℕ} {b : Bool} (f : x ≡ peek (left s 
       let d = ate_digits is_digit q.ate in
       record { part = record { what = rw h d.what; place = rw h d.place }; first = q.first }
 
-module _ (base : ℕ) {s : List ℕ} {at end kind before own found : ℕ} {any : Bool} (q : Read exponent s at 0 any own end) (w : found ≡ first_of before own) where
-  pub exponent_some : any ≡ true → kind ≡ 48 + 2 * base → Read (exponent_of base) s at before kind found end
+module _ (base : ℕ) {s : List ℕ} {at end kind before own found : ℕ} {any : Bool} where
+  pub exponent_read : Read exponent s at 0 any own end → found ≡ first_of before own → kind ≡ float base (not any) → Read (exponent_of base) s at before kind found end
   unfolding exponent_of
-  exponent_some t k =
-      let h : (exponent (left s at)).0 ≡ true = sym q.part.what ∙ t in
-      record { part = record { what = rw h (omega arith); place = q.part.place }; first = found_after q.first w }
-
-  pub exponent_empty : any ≡ false → kind ≡ 49 + 2 * base → Read (exponent_of base) s at before kind found end
-  unfolding exponent_of
-  exponent_empty t k =
-      let h : (exponent (left s at)).0 ≡ false = sym q.part.what ∙ t in
-      record { part = record { what = rw h (omega arith); place = q.part.place }; first = found_after q.first w }
+  exponent_read q w k =
+      record { part = record { what = k ∙ ap (λ b. float base (not b)) q.part.what; place = q.part.place }; first = found_after q.first w }
 
 -- ---- behind a point
 module _ (base : ℕ) (s : List ℕ) (at : ℕ) {x before : ℕ} {b : Bool} (f : x ≡ peek (left s at)) (o : b ≡ is_digit x) where
-  pub point_none : {kind : ℕ} → b ≡ false → at ≤ length s → kind ≡ 48 + 2 * base → Read (point base) s at before kind before at
+  pub point_none : {kind : ℕ} → b ≡ false → at ≤ length s → kind ≡ float base false → Read (point base) s at before kind before at
   unfolding point
   point_none t l k =
       let h : is_digit (peek (left s at)) ≡ false = rw f at (sym o ∙ t) in
-      record { part = parted (point base) s at (float base false, left s at) (rw h) (omega arith) (stay l); first = misplaced_none }
+      record { part = parted (point base) s at (float base false, left s at) (rw h) k (stay l); first = misplaced_none }
 
   module _ {e y own found : ℕ} {any c : Bool} (t : b ≡ true) (q : Run is_digit false s at any own e) (w : found ≡ first_of before own) (g : y ≡ peek (left s e)) (o' : c ≡ is_e y) where
-    pub point_digits : {kind : ℕ} → c ≡ false → kind ≡ 48 + 2 * base → Read (point base) s at before kind found e
+    pub point_digits : {kind : ℕ} → c ≡ false → kind ≡ float base false → Read (point base) s at before kind found e
     unfolding point
     point_digits u k =
         let h : is_digit (peek (left s at)) ≡ true = rw f at (sym o ∙ t) in
         let d = ate_digits is_digit q.ate in
         let j : is_e (peek (digits is_digit (left s at)).1) ≡ false = rw (g, d.place.there) at (sym o' ∙ u) in
-        record { part = parted (point base) s at (float base false, (digits is_digit (left s at)).1) (rw (h, j)) (omega arith) d.place; first = found_after q.first w }
+        record { part = parted (point base) s at (float base false, (digits is_digit (left s at)).1) (rw (h, j)) k d.place; first = found_after q.first w }
 
     pub point_exponent : {a end kind last : ℕ} → c ≡ true → Place s e a (tail (left s e)) → Read (exponent_of base) s a found kind last end → Read (point base) s at before kind last end
     unfolding point
@@ -124,22 +117,22 @@ module _ (base : ℕ) (s : List ℕ) (at : ℕ) {x before : ℕ} (f : x ≡ peek
         first = over_e f o t p r.first;
       }
 
-  pub fraction_none : {kind : ℕ} {b : Bool} → (x ≡ 0x2E → ⊥) → b ≡ is_e x → b ≡ false → at ≤ length s → kind ≡ 40 + 2 * base → Read (fraction base) s at before kind before at
+  pub fraction_none : {kind : ℕ} {b : Bool} → (x ≡ 0x2E → ⊥) → b ≡ is_e x → b ≡ false → at ≤ length s → kind ≡ int base false → Read (fraction base) s at before kind before at
   unfolding fraction
   fraction_none n o t l k =
       let h : is_e (peek (left s at)) ≡ false = rw f at (sym o ∙ t) in
-      record { part = parted (fraction base) s at (int base false, left s at) (rw (ne_eqb _ 0x2E (λ z. n (f ∙ z)), h)) (omega arith) (stay l); first = misplaced_none }
+      record { part = parted (fraction base) s at (int base false, left s at) (rw (ne_eqb _ 0x2E (λ z. n (f ∙ z)), h)) k (stay l); first = misplaced_none }
 
 module _ (base : ℕ) (any : Bool) (s : List ℕ) (at : ℕ) {before : ℕ} where
   pub based_some : {end kind found : ℕ} → any ≡ true → Read (fraction base) s at before kind found end → Read (based base any) s at before kind found end
   unfolding based
   based_some t r = record { part = parted (based base any) s at (fraction base (left s at)) (rw t) r.part.what r.part.place; first = r.first }
 
-  pub based_none : {kind : ℕ} → any ≡ false → at ≤ length s → kind ≡ 41 + 2 * base → Read (based base any) s at before kind before at
+  pub based_none : {kind : ℕ} → any ≡ false → at ≤ length s → kind ≡ int base true → Read (based base any) s at before kind before at
   unfolding based
-  based_none t l k = record { part = parted (based base any) s at (int base true, left s at) (rw t) (omega arith) (stay l); first = misplaced_none }
+  based_none t l k = record { part = parted (based base any) s at (int base true, left s at) (rw t) k (stay l); first = misplaced_none }
 
-pub ruleset numbering = (exponent_signed, exponent_plain, exponent_some, exponent_empty, point_none, point_digits, point_exponent, fraction_point, fraction_exponent, fraction_none, based_some, based_none)
+pub ruleset numbering = (or_placed, exponent_signed, exponent_plain, exponent_read, point_none, point_digits, point_exponent, fraction_point, fraction_exponent, fraction_none, based_some, based_none)
 
 -- ---- behind hexadecimal digits a point stands, or nothing: their run takes every e
 e_hex : (b : ℕ) → is_e b ≡ true → is_hex_digit b ≡ true

@@ -13,18 +13,17 @@ use borrow.Author.Tests.{eq-eqb, ne_eqb}
 use Rattle.lists.specs.All.{all}
 use Rattle.lists.proofs.Bools.{by_test}
 use Rattle.characters.specs.Utf8.{chars}
-use Rattle.characters.specs.Ranges.{flat}
-use Rattle.ucd.specs.Ucd.{xid_start, xid_continue}
 use Rattle.characters.specs.Text.{Decoded, left, skip}
 use Rattle.characters.specs.Steps.{Place}
 use Rattle.characters.proofs.Text.{decoded_point, point_at, left_end, skip_nil, skip_more, skip_stop}
-use Rattle.text.specs.Answer.{Answered, done, check_text}
+use Rattle.text.specs.declared.Refusal.{Refusal}
+use Rattle.text.specs.Refusals.{refused}
+use Rattle.text.specs.Answer.{done, check_text}
+use Rattle.text.proofs.Checks.{never_done}
 use Rattle.letters.specs.Chars.{ident_by, is_ident}
 use Rattle.lexer.specs.Cut.{Letters}
-use Rattle.lexer.specs.Unicode.{start_in, more_in, unicode}
+use Rattle.lexer.specs.Unicode.{unicode}
 use Rattle.lexer.specs.Promises.{identified}
-use Rattle.lexer.proofs.Unicode.{lent_is}
-use Rattle.lexer.proofs.Flags.{pick_yes, pick_no}
 
 -- ---- all pass where nothing is left
 module _ (p : ℕ → Bool) where
@@ -66,19 +65,19 @@ module _ (p q : ℕ → Bool) (s : List ℕ) where
     pub ident_by_lem : {end : ℕ} {r : Bool} → b ≡ true → Place s wide end (skip q (left s wide)) → r ≡ eqb end (length s) → r ≡ ident_by p q (chars s)
     ident_by_lem h k e = rw (ident_is, ← t, h) (e ∙ sym (all_by q k))
 
--- over the constants
-pub ident_lent : (s : List ℕ) {r : Bool} → r ≡ ident_by (start_in (flat xid_start)) (more_in (flat xid_continue)) (chars s) → r ≡ is_ident (chars s)
+-- over Unicode's letters
+ident_unicode : (s : List ℕ) {u : Letters} {r : Bool} → u ≡ unicode → r ≡ ident_by u.start u.more (chars s) → r ≡ is_ident (chars s)
 unfolding unicode
-ident_lent s {r} e = e ∙ ap (λ (u : Letters). ident_by u.start u.more (chars s)) lent_is
+ident_unicode s e h = h ∙ ap (λ (u : Letters). ident_by u.start u.more (chars s)) e
 
 -- ---- the answer
-module _ (s : List ℕ) {number also : ℕ} where
-  pub identified_refused : Answered (check_text s) number also → (number ≡ done → ⊥) → Answered (identified s) number also
+module _ (s : List ℕ) where
+  pub identified_refused : (r : Refusal) → refused r ≡ check_text s → refused r ≡ identified s
   unfolding identified
-  identified_refused a h = rw (ne_eqb (check_text s).0 done (λ e. h (a.number_is ∙ e))) a
+  identified_refused r a = rw (sym a, ne_eqb (refused r).0 done (never_done r)) refl
 
-  pub identified_done : {n k : ℕ} {b : Bool} → Answered (check_text s) n k → n ≡ done → b ≡ is_ident (chars s) → number ≡ done → also ≡ cond b 1 0 → Answered (identified s) number also
+  pub identified_done : {u : Letters} {b : Bool} → (done, 0) ≡ check_text s → u ≡ unicode → b ≡ ident_by u.start u.more (chars s) → (done, cond b 1 0) ≡ identified s
   unfolding identified
-  identified_done a z e p q = rw (eq-eqb (check_text s).0 done (sym a.number_is ∙ z), ← e) (record { number_is = p; also_is = q })
+  identified_done a e h = rw (sym a) (ap (λ (b : Bool). (done, cond b 1 0)) (ident_unicode s e h))
 
-pub ruleset identifying = (ident_none, ident_not, ident_by_lem, identified_refused, identified_done, pick_yes, pick_no)
+pub ruleset identifying = (ident_none, ident_not, ident_by_lem)

@@ -1,83 +1,104 @@
 -- Identifiers, pragmas, annotations and hardware identifiers, as `search` takes the laws.
 -- Assumes nothing.
-use Prim.Native.Nat.{ℕ, suc, ◌+◌, ◌≤◌, ◌<◌}
+use Prim.Native.Nat.{ℕ, suc, ◌+◌, ◌-◌, ◌≤◌, ◌<◌}
 use native.Mathlib.Decide.{dec_lt}
 use native.Mathlib.Omega.{arith}
-use native.Mathlib.Numerals.{add-one}
+use native.Mathlib.Numerals.{one-add}
 use mathlib.Core.Path.{◌≡◌, refl, ap, sym, ◌∙◌}
 use mathlib.Core.Bool.{Bool, true, false, cond, false≢true}
 use mathlib.Core.List.{List, [], ◌∷◌}
-use lib.ListN.{length, drop, get_or, drop_of_length-le}
-use lib.Seq.{drop-cons, drop-drop}
-use lib.Dec.{leb}
-use borrow.Author.Tests.{eq-eqb, ne_eqb, lt-leb}
-use Rattle.characters.specs.Text.{Decoded, left, skip}
+use lib.ListN.{length, take, drop, get_or, length-drop}
+use lib.Seq.{drop-drop}
+use lib.Dec.{eqb, leb}
+use borrow.Author.Tests.{eq-eqb, eqb-true, ne_eqb, lt-leb}
+use Rattle.std.proofs.Math.Dec.{eqb-suc-suc}
+use Rattle.std.specs.List.{prefix_len, zip}
+use Rattle.std.specs.Cmp.Lexicographic.{pointwise}
+use Rattle.lists.proofs.Bools.{by_test}
+use Rattle.characters.specs.Utf8.{first, chars}
+use Rattle.characters.specs.Text.{left, skip}
 use Rattle.characters.specs.Steps.{Place}
-use Rattle.characters.proofs.Text.{decoded_point, left_end, from_place, skip_nil, skip_stop}
-use Rattle.characters.proofs.Ascii.{ascii_decoded}
+use Rattle.characters.proofs.Text.{chars_nil, chars_first, decoded_point, left_end, from_place, skip_nil, skip_stop}
+use Rattle.characters.proofs.Ascii.{ascii_decoded, chars_ascii, wide_code}
 use Rattle.cutters.specs.Digits.{peek, is_digit}
 use Rattle.lexer.specs.Cut.{not_lf, digits, agree, pragma_word, pound, wide_emoji, goes_on, name, word, annotated, hardware}
 use Rattle.cutters.specs.Kinds.{ident, hardware_ident, invalid_ident, pragma, annotation, at_sign, dollar, is_wire}
 use Rattle.lexer.specs.Unicode.{start_in, more_in, emoji_in}
-use Rattle.lexer.specs.Steps.{Parted, Agreed, Ran, Run, Wired}
+use Rattle.lexer.specs.Steps.{Parted, Ran, Run, Wired}
 use Rattle.lexer.proofs.Digits.{stay, parted, ate_digits}
 
--- ---- a word against the text: to go on from here comes to the same
-pub record Agreeing (w s : List ℕ) (at₀ n at : ℕ) : Type 0 where
-  pub few : n ≤ length w
-  pub after : at₀ ≤ at
-  pub within : at ≤ length s
-  pub many : n + agree (drop n w) (left s at) ≡ agree w (left s at₀)
-  pub there : left s at ≡ drop n (left s at₀)
+-- ---- a word against the text
+-- what `zip` and `take_while` count
+pub agree_zip : (w t : List ℕ) → prefix_len (λ (p : ℕ × ℕ). eqb p.0 p.1) (zip t w) ≡ agree w t
+unfolding agree
+agree_zip [] [] = refl
+agree_zip [] (c ∷ t) = refl
+agree_zip (w ∷ ws) [] = refl
+agree_zip (w ∷ ws) (c ∷ t) = by_test (eqb c w) (λ h. rw (h, one-add) (ap suc (agree_zip ws t))) (λ h. rw h)
 
-module _ {w s : List ℕ} {at₀ n at : ℕ} where
-  agreed : Agreeing w s at₀ n at → agree (drop n w) (left s at) ≡ 0 → Agreed w s at₀ n at
-  agreed e z =
-      record { many = omega (arith, e.many, z); place = record { after = e.after; within = e.within; there = e.there } }
+-- what `starts_with` says
+pub agree_starts : (w t : List ℕ) → pointwise eqb w (take (length w) t) ≡ eqb (agree w t) (length w)
+unfolding agree
+agree_starts [] t = refl
+agree_starts (w ∷ ws) [] = sym (ne_eqb 0 (length (w ∷ ws)) (λ e. omega arith))
+agree_starts (w ∷ ws) (c ∷ t) =
+    by_test (eqb c w)
+    (λ h. rw (h, eq-eqb w c (sym (eqb-true c w h))) (agree_starts ws t ∙ sym (eqb-suc-suc (agree ws t) (length ws))))
+    (λ h. rw (h, ne_eqb w c (λ e. false≢true (sym h ∙ eq-eqb c w (sym e)))) (sym (ne_eqb 0 (length (w ∷ ws)) (λ e. omega arith))))
 
-  pub agreeing_more : {code wide n' at' : ℕ} → Agreeing w s at₀ n at → Decoded s at code wide → at < length s → n < length w → code ≡ get_or w n 0 → n' ≡ n + 1 → at' ≡ at + wide → Agreeing w s at₀ n' at'
-  unfolding agree
-  agreeing_more {code} {wide} e d l m h u v =
-      let c = decoded_point d l in
-      let k : agree (drop n w) (left s at) ≡ suc (agree (drop (suc n) w) (left s (at + wide))) = rw (drop-cons w n 0 m, c.view, eq-eqb code (get_or w n 0) h) in
-      let t : left s (at + wide) ≡ drop 1 (left s at) = rw c.view in
-      record {
-        few = omega arith;
-        after = omega (arith, e.after);
-        within = omega (arith, c.within);
-        many = rw (u, v, add-one) (omega (arith, e.many, k));
-        there = rw (u, v) (t ∙ ap (drop 1) e.there ∙ drop-drop 1 n (left s at₀));
-      }
+-- a word of ASCII agrees with as many bytes as characters, and what is left behind them is the same
+abbrev low : List ℕ → Type 0
+low [] = Unit {0}
+low (w ∷ ws) = (w < 0x80) × low ws
 
-  pub agreeing_stop : {code wide : ℕ} → Agreeing w s at₀ n at → Decoded s at code wide → at < length s → n < length w → (code ≡ get_or w n 0 → ⊥) → Agreed w s at₀ n at
-  unfolding agree
-  agreeing_stop {code} {wide} e d l m h =
-      agreed e (rw (drop-cons w n 0 m, (decoded_point d l).view, ne_eqb code (get_or w n 0) h))
+record Alike (w t : List ℕ) : Type 0 where
+  many : agree w (chars t) ≡ agree w t
+  rest : chars (drop (agree w t) t) ≡ drop (agree w t) (chars t)
 
-  pub agreeing_end : Agreeing w s at₀ n at → length s ≤ at → n < length w → Agreed w s at₀ n at
-  unfolding agree
-  agreeing_end e l m = agreed e (rw (drop-cons w n 0 m, left_end s at l))
+alike : (w t : List ℕ) → low w → Alike w t
+unfolding agree
+alike [] t h = record { many = refl; rest = refl }
+alike (w ∷ ws) [] h = record { many = rw chars_nil; rest = refl }
+alike (w ∷ ws) (a ∷ t) h =
+    elim (dec_lt a 0x80) [
+      | yes l ↦
+          let i = alike ws t h.1 in
+          by_test (eqb a w)
+          (λ e. record { many = rw (chars_ascii a t l, e, i.many); rest = rw (e, chars_ascii a t l) i.rest })
+          (λ e. record { many = rw (chars_ascii a t l, e); rest = rw e })
+      | no n ↦
+          let k : eqb (first (a ∷ t)).0 w ≡ false = ne_eqb _ w (λ e. omega (arith, wide_code a t (omega arith), h.0)) in
+          let e : eqb a w ≡ false = ne_eqb a w (λ y. omega (arith, h.0)) in
+          record { many = rw (chars_first (a ∷ t) (omega arith), k, e); rest = rw e }
+    ]
 
-  pub agreeing_all : Agreeing w s at₀ n at → length w ≤ n → Agreed w s at₀ n at
-  unfolding agree
-  agreeing_all e m = agreed e (rw (drop_of_length-le w {i = n} m))
+agree_most : (w t : List ℕ) → agree w t ≤ length t
+unfolding agree
+agree_most [] t = omega arith
+agree_most (w ∷ ws) [] = omega arith
+agree_most (w ∷ ws) (c ∷ t) = by_test (eqb c w) (λ h. rw h (omega (arith, agree_most ws t))) (λ h. rw h (omega arith))
 
-pub agreeing_none : {w s : List ℕ} {at : ℕ} → at ≤ length s → Agreeing w s at 0 at
-agreeing_none h = record { few = omega arith; after = omega arith; within = h; many = omega arith; there = refl }
-
-pub ruleset agreeing = (agreeing_none, agreeing_more, agreeing_stop, agreeing_end, agreeing_all)
+pragma_alike : (t : List ℕ) → Alike pragma_word t
+pragma_alike t = alike pragma_word t (omega arith, (omega arith, (omega arith, (omega arith, (omega arith, (omega arith, tt))))))
 
 -- ---- behind #
-module _ {s : List ℕ} {at n e : ℕ} (a : Agreed pragma_word s at n e) where
+module _ (s : List ℕ) (at : ℕ) {n : ℕ} (e : n ≡ agree pragma_word (drop at s)) where
+  agreed : n ≡ agree pragma_word (left s at)
+  agreed = e ∙ sym (pragma_alike (drop at s)).many
+
+  -- the bytes that agree stand in the text
+  pub agree_within : n ≤ length s - at
+  agree_within = omega (arith, e, agree_most pragma_word (drop at s), length-drop at s)
+
   pub pound_pragma : {end kind : ℕ} → n ≡ 6 → Place s at end (skip not_lf (left s at)) → kind ≡ pragma → Parted pound s at kind end
   unfolding pound
-  pound_pragma h p k = parted pound s at (pragma, skip not_lf (left s at)) (rw (eq-eqb _ 6 (sym a.many ∙ h))) k p
+  pound_pragma h p k = parted pound s at (pragma, skip not_lf (left s at)) (rw (eq-eqb _ 6 (sym agreed ∙ h))) k p
 
-  pub pound_else : {kind : ℕ} → (n ≡ 6 → ⊥) → kind ≡ invalid_ident → Parted pound s at kind e
+  pub pound_else : {kind : ℕ} → at ≤ length s → (n ≡ 6 → ⊥) → kind ≡ invalid_ident → Parted pound s at kind (at + n)
   unfolding pound
-  pound_else h k =
-      parted pound s at (invalid_ident, drop (agree pragma_word (left s at)) (left s at)) (rw (ne_eqb _ 6 (λ z. h (a.many ∙ z)))) k
-      (rw (← a.many) a.place)
+  pound_else l h k =
+      parted pound s at (invalid_ident, drop (agree pragma_word (left s at)) (left s at)) (rw (ne_eqb _ 6 (λ z. h (agreed ∙ z)))) k
+      (record { after = omega arith; within = omega (arith, agree_within); there = ap chars (sym (drop-drop n at s)) ∙ rw e (pragma_alike (drop at s)).rest ∙ ap (λ m. drop m (left s at)) (sym e ∙ agreed) })
 
 -- ---- identifiers
 module _ (more emoji s : List ℕ) (at : ℕ) where
@@ -132,19 +153,21 @@ module _ (more emoji s : List ℕ) (at : ℕ) where
         (rw u (record { after = omega (arith, p.after, q.place.after); within = q.place.within; there = q.place.there }))
 
   -- behind c, which stands at `own`
+  module _ (profile c own : ℕ) {b : Bool} (v : left s own ≡ c ∷ left s at) (o : b ≡ pointwise eqb pragma_word (take 6 (drop own s))) where
+    spelled : eqb (agree pragma_word (c ∷ left s at)) 6 ≡ b
+    spelled = ap (λ t. eqb (agree pragma_word t) 6) (sym v) ∙ ap (λ n. eqb n 6) (pragma_alike (drop own s)).many ∙ sym (agree_starts pragma_word (drop own s)) ∙ sym o
+
+    pub word_pragma : {end kind : ℕ} → profile ≡ 1 → b ≡ true → Place s at end (skip not_lf (left s at)) → kind ≡ pragma → Parted (word (more_in more) (emoji_in emoji) profile c) s at kind end
+    unfolding word
+    word_pragma z t p k =
+        parted (word (more_in more) (emoji_in emoji) profile c) s at (pragma, skip not_lf (left s at)) (rw (eq-eqb profile 1 z, spelled, t)) k p
+
+    pub word_not_pragma : {end kind : ℕ} → profile ≡ 1 → b ≡ false → Parted (name (more_in more) (emoji_in emoji)) s at kind end → Parted (word (more_in more) (emoji_in emoji) profile c) s at kind end
+    unfolding word
+    word_not_pragma z t r =
+        parted (word (more_in more) (emoji_in emoji) profile c) s at (name (more_in more) (emoji_in emoji) (left s at)) (rw (eq-eqb profile 1 z, spelled, t)) r.what r.place
+
   module _ (profile c : ℕ) where
-    pub word_pragma : {own n e end kind : ℕ} → profile ≡ 1 → left s own ≡ c ∷ left s at → Agreed pragma_word s own n e → n ≡ 6 → Place s at end (skip not_lf (left s at)) → kind ≡ pragma → Parted (word (more_in more) (emoji_in emoji) profile c) s at kind end
-    unfolding word
-    word_pragma z v a h p k =
-        let i : agree pragma_word (c ∷ left s at) ≡ 6 = ap (agree pragma_word) (sym v) ∙ sym a.many ∙ h in
-        parted (word (more_in more) (emoji_in emoji) profile c) s at (pragma, skip not_lf (left s at)) (rw (eq-eqb profile 1 z, eq-eqb _ 6 i)) k p
-
-    pub word_not_pragma : {own n e end kind : ℕ} → profile ≡ 1 → left s own ≡ c ∷ left s at → Agreed pragma_word s own n e → (n ≡ 6 → ⊥) → Parted (name (more_in more) (emoji_in emoji)) s at kind end → Parted (word (more_in more) (emoji_in emoji) profile c) s at kind end
-    unfolding word
-    word_not_pragma z v a h r =
-        let i : agree pragma_word (c ∷ left s at) ≡ 6 → ⊥ = λ y. h (a.many ∙ ap (agree pragma_word) v ∙ y) in
-        parted (word (more_in more) (emoji_in emoji) profile c) s at (name (more_in more) (emoji_in emoji) (left s at)) (rw (eq-eqb profile 1 z, ne_eqb _ 6 i)) r.what r.place
-
     pub word_plain : {end kind : ℕ} → (profile ≡ 1 → ⊥) → Parted (name (more_in more) (emoji_in emoji)) s at kind end → Parted (word (more_in more) (emoji_in emoji) profile c) s at kind end
     unfolding word
     word_plain z r =
@@ -191,4 +214,4 @@ module _ (start s : List ℕ) (at : ℕ) {x : ℕ} {b : Bool} (f : x ≡ peek (l
       let h : start_in start (peek (left s at)) ≡ false = rw f at (sym o ∙ t) in
       parted (annotated (start_in start)) s at (at_sign, left s at) (rw h) k (stay l)
 
-pub ruleset naming = (pound_pragma, pound_else, name_fake, name_plain, name_ascii, name_run, word_pragma, word_not_pragma, word_plain, annotated_line, annotated_none, hardware_fake, hardware_digits, wired_fake, wired_digits)
+pub ruleset naming = (name_fake, name_plain, name_ascii, name_run, annotated_line, annotated_none, hardware_fake, hardware_digits, wired_fake, wired_digits)

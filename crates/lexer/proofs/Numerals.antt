@@ -23,7 +23,7 @@ use Rattle.cutters.proofs.Underscores.{Stays, byte_own, in_low, in_join, in_poin
 use Rattle.lexer.specs.Cut.{is_e, or_underscore, met, digits, exponent, exponent_of, point, fraction, based, number}
 use Rattle.lexer.specs.Steps.{Misplaced}
 use Rattle.lexer.proofs.Bytewise.{peek_ascii, peek_drop}
-use Rattle.lexer.proofs.Underscores.{Digital, decimals, hexadecimals, stays}
+use Rattle.lexer.proofs.Underscores.{Digital, digital, stays}
 
 -- ---- behind digits no digit stands
 neither : (a b : Bool) → (a || b) ≡ false → (a ≡ false) × (b ≡ false)
@@ -60,14 +60,14 @@ module _ {base : ℕ} (known : base ≤ 3) where
   exponent_ended : (t : List ℕ) → Ended (exponent_of base t)
   unfolding exponent_of exponent
   exponent_ended t =
-      record { kind = float_is (not (exponent t).0); stop = digits_stop decimals (cond (eqb (peek t) 0x2D || eqb (peek t) 0x2B) (tail t) t) }
+      record { kind = float_is (not (exponent t).0); stop = digits_stop (digital false) (cond (eqb (peek t) 0x2D || eqb (peek t) 0x2B) (tail t) t) }
 
   point_ended : (t : List ℕ) → Ended (point base t)
   unfolding point
   point_ended t =
       let r = (digits is_digit t).1 in
       by_test (is_digit (peek t))
-      (λ h. rw h (on_cond Ended (is_e (peek r)) (exponent_ended (tail r)) (record { kind = float_is false; stop = digits_stop decimals t })))
+      (λ h. rw h (on_cond Ended (is_e (peek r)) (exponent_ended (tail r)) (record { kind = float_is false; stop = digits_stop (digital false) t })))
       (λ h. rw h (record { kind = float_is false; stop = h }))
 
   fraction_ended : (t : List ℕ) → is_digit (peek t) ≡ false → Ended (fraction base t)
@@ -90,10 +90,10 @@ unfolding number
 number_ended c t =
     let d = digits is_digit (tail t) in
     let h = digits is_hex_digit (tail t) in
-    on_cond Ended (eqb c 0x30 && eqb (peek t) 0x62) (based_ended (omega arith) d.0 d.1 (digits_stop decimals (tail t)))
-    (on_cond Ended (eqb c 0x30 && eqb (peek t) 0x6F) (based_ended (omega arith) d.0 d.1 (digits_stop decimals (tail t)))
-    (on_cond Ended (eqb c 0x30 && eqb (peek t) 0x78) (based_ended (omega arith) h.0 h.1 (no_hex (peek h.1) (digits_stop hexadecimals (tail t))))
-    (fraction_ended (omega arith) (digits is_digit t).1 (digits_stop decimals t))))
+    on_cond Ended (eqb c 0x30 && eqb (peek t) 0x62) (based_ended (omega arith) d.0 d.1 (digits_stop (digital false) (tail t)))
+    (on_cond Ended (eqb c 0x30 && eqb (peek t) 0x6F) (based_ended (omega arith) d.0 d.1 (digits_stop (digital false) (tail t)))
+    (on_cond Ended (eqb c 0x30 && eqb (peek t) 0x78) (based_ended (omega arith) h.0 h.1 (no_hex (peek h.1) (digits_stop (digital true) (tail t))))
+    (fraction_ended (omega arith) (digits is_digit t).1 (digits_stop (digital false) t))))
 
 pub number_kind : (c : ℕ) (t : List ℕ) → is_number (number c t).0 ≡ true
 number_kind c t = (number_ended c t).kind

@@ -1,5 +1,8 @@
 -- Misplaced underscores, as `search` takes the laws: what the digit readers find, and what is found behind one another.
 -- Assumes nothing.
+use Rattle.std.specs.Prelude.{Option, Some, None}
+use Rattle.std.specs.Option.{option_or}
+use Rattle.std.specs.declared.num.NonZeroUsize.{NonZeroUsize}
 use Prim.Native.Nat.{ℕ, zero, suc, ◌+◌, ◌-◌, ◌≤◌, ◌<◌}
 use native.Mathlib.Decide.{dec_lt}
 use native.Mathlib.Numerals.{add-one}
@@ -20,7 +23,7 @@ use Rattle.cutters.specs.Underscores.{before, misplaced, misplaced_in}
 use Rattle.cutters.specs.Steps.{first_of}
 use Rattle.cutters.proofs.Underscores.{Stays, in_other, in_join}
 use Rattle.lexer.specs.Cut.{is_e, or_underscore, met}
-use Rattle.lexer.specs.Steps.{Misplaced, Run}
+use Rattle.lexer.specs.Steps.{Misplaced, Run, place_of}
 use Rattle.lexer.proofs.Bytewise.{peek_same, peek_drop, stands}
 
 -- ---- one place behind another
@@ -30,6 +33,11 @@ first_then x y z =
 
 pub first_none : (x : ℕ) → first_of x 0 ≡ x
 first_none x = by_test (eqb x 0) (λ t. rw (t, eqb-true x 0 t)) (λ t. rw t)
+
+-- the first of two places that code may hold
+pub or_placed : (x y z : Option NonZeroUsize) → z ≡ option_or x y → place_of z ≡ first_of (place_of x) (place_of y)
+or_placed None y z e = ap place_of e
+or_placed (Some p) y z e = rw (e, ne_eqb p.value 0 (λ n. omega (arith, p.ok)))
 
 -- over bytes with no point among them the digits stay the same
 pub stays : (hex : Bool) (s : List ℕ) (at n : ℕ) → ((k : ℕ) → at ≤ k → k < at + n → get_or s k 0 ≡ 0x2E → ⊥) → Stays hex s at n
@@ -103,24 +111,14 @@ pub record Digital (digit : ℕ → Bool) : Type 0 where
   pub underscore : digit 0x5F ≡ false
   pub wide : (c : ℕ) → 0x80 ≤ c → or_underscore digit c ≡ false
 
-pub decimals : Digital is_digit
-unfolding is_digit
-decimals =
-    record {
-      end = refl;
-      point = refl;
-      underscore = refl;
-      wide = λ c h. simp (ne_eqb c 0x5F (λ e. omega arith), lt-leb c 0x39 (omega arith), and_false);
-    }
-
-pub hexadecimals : Digital is_hex_digit
+pub digital : (hex : Bool) → Digital (digit_by hex)
 unfolding is_hex_digit is_digit
-hexadecimals =
+digital hex =
     record {
-      end = refl;
-      point = refl;
-      underscore = refl;
-      wide = λ c h. simp (ne_eqb c 0x5F (λ e. omega arith), lt-leb c 0x39 (omega arith), lt-leb c 0x46 (omega arith), lt-leb c 0x66 (omega arith), and_false);
+      end = by_test hex (λ t. rw t) (λ t. rw t);
+      point = by_test hex (λ t. rw t) (λ t. rw t);
+      underscore = by_test hex (λ t. rw t) (λ t. rw t);
+      wide = λ c h. by_test hex (λ t. rw t (simp (ne_eqb c 0x5F (λ e. omega arith), lt-leb c 0x39 (omega arith), lt-leb c 0x46 (omega arith), lt-leb c 0x66 (omega arith), and_false))) (λ t. rw t (simp (ne_eqb c 0x5F (λ e. omega arith), lt-leb c 0x39 (omega arith), and_false)));
     }
 
 pub record Reading (digit : ℕ → Bool) (hex : Bool) (s : List ℕ) (at₀ : ℕ) (any₀ : Bool) (found₀ at : ℕ) (any : Bool) (found : ℕ) : Type 0 where
@@ -184,7 +182,11 @@ module _ {digit : ℕ → Bool} {hex : Bool} {s : List ℕ} {at₀ at : ℕ} {an
         stop = ap digit (get_or-eq_default s 0 {n = at} l) ∙ q.end;
       }
 
-pub ruleset reading = (reading_none, reading_underscore, reading_digit, reading_halt, reading_end, decimals, hexadecimals)
+-- the place that code holds in the next turn is the one that it stored
+pub placed : (x y : Option NonZeroUsize) → x ≡ y → place_of x ≡ place_of y
+placed x y = ap place_of
+
+pub ruleset reading = (placed, reading_none, reading_underscore, reading_digit, reading_halt, reading_end, digital)
 
 -- ---- what stands between the runs
 -- what is peeked and the byte there pass the same tests for ASCII

@@ -1,6 +1,8 @@
 -- What the cutter's own functions answer, by the places that they reach.
 -- Assumes nothing.
-use Rattle.std.specs.Prelude.{ℕ, suc, ◌+◌, ◌-◌, ◌≤◌, ◌<◌, min, ◌≡◌, Bool, true, false, cond, ◌&&◌, ◌||◌, List, ◌∷◌, eqb, length, take, drop, get_or}
+use Rattle.std.specs.Prelude.{ℕ, suc, ◌+◌, ◌-◌, ◌≤◌, ◌<◌, min, ◌≡◌, Bool, true, false, cond, ◌&&◌, ◌||◌, Option, Some, None, List, ◌∷◌, eqb, length, take, drop, get_or}
+use Rattle.std.specs.declared.num.NonZeroUsize.{NonZeroUsize}
+use Rattle.std.specs.Int.NonZero.{non_zero_usize_get}
 use Rattle.characters.specs.Ranges.{in_table}
 use Rattle.characters.specs.Steps.{Place, Ate}
 use Rattle.characters.specs.Text.{left, skip}
@@ -10,6 +12,8 @@ use Rattle.cutters.specs.Kinds.{is_wire, is_number}
 use Rattle.cutters.specs.Digits.{peek, is_digit}
 use Rattle.cutters.specs.Underscores.{misplaced_in, misplaced_of}
 use Rattle.cutters.specs.Steps.{first_of}
+use Rattle.lexer.specs.declared.quotes.Lines.{Lines}
+use Rattle.lexer.specs.declared.quotes.Lines.TheVariants.{Zero, One, Many}
 use Rattle.lexer.specs.Cut.{Letters, agree, or_underscore, met, is_bit, number, identifier, number_suffix, quoted, quote_kind, advance_token}
 
 -- a kind or a flag, and a place, by a definition that gives it and what is left
@@ -30,6 +34,11 @@ pub record Agreed (word s : List ℕ) (at count end : ℕ) : Type 0 where
   pub place : Place s at end (drop count (left s at))
 
 -- ---- misplaced underscores
+-- the place that code may hold, 0 for none
+abbrev pub place_of : Option NonZeroUsize → ℕ
+place_of None = 0
+place_of (Some place) = non_zero_usize_get place
+
 -- where in the text the first one stands from `at` to `end`, if none was found before; of a run at the text's first byte nothing is said
 pub record Misplaced (hex : Bool) (s : List ℕ) (at end found found' : ℕ) : Type 0 where
   pub after : at ≤ end
@@ -77,6 +86,12 @@ pub record Added (c : ℕ) (plain : Bool) (lines : ℕ) (twice : Bool) (prev : �
   pub lines_is : lines' ≡ min 2 (lines + cond (eqb c 0x0A) 1 0)
   pub twice_is : twice' ≡ (twice || (eqb prev 0x5F && eqb c 0x5F))
   pub prev_is : prev' ≡ c
+
+-- how many LF that is, two for many
+abbrev pub lines_number : Lines → ℕ
+lines_number Zero = 0
+lines_number One = 1
+lines_number Many = 2
 
 -- whether a quoted text is a bit string, by what was seen of it
 abbrev pub bits_by : Bool → Bool → ℕ → ℕ → Bool

@@ -1,18 +1,19 @@
 // The token at a place: decided by its first character, in the order of the tests.
 ghost use Rattle.std.specs.Prelude.{◌≡◌, ◌-◌, ◌≤◌, length};
 ghost use Rattle.lexer.specs.Unicode.{start_in, more_in, letters_in, lent};
-ghost use Rattle.lexer.specs.Steps.{Stands, Lettered, NumberAt, StringAt, LiteralAt, Plainly, Cuts};
+ghost use Rattle.lexer.specs.Steps.{place_of, Stands, Lettered, NumberAt, StringAt, LiteralAt, Plainly, Cuts};
 ghost use Rattle.lexer.specs.Promises.{Advanced};
 ghost use Rattle.cutters.specs.Numbers.{kind_number};
 
 use crate::comments::{Part, slash};
-use crate::lent::Letters;
 use crate::cursor::Cursor;
+use crate::lent::Letters;
 use crate::numbers::{Figures, eat_literal_suffix, has_timing_or_imaginary_suffix, number};
 use crate::quotes::double_quoted_string;
 use crate::words::{annotation, hardware_ident, ident_or_unknown_prefix, pound};
 use characters::utf8::decode;
 use cutters::{Kind, Piece};
+use std::num::NonZeroUsize;
 
 // A token that is no literal: its suffix is told at its own start.
 fn plain(at: usize, kind: Kind, end: Cursor) -> Piece
@@ -32,19 +33,16 @@ fn plain_part(at: usize, p: Part) -> Piece
     plain(at, p.kind, p.cursor)
 }
 
-// The place in a token that starts at `at`, of a place in the text; none, which is 0, stays so.
-fn place_in(at: usize, found: usize) -> usize
-    ensures { result ≡ found - at }
+// The place in a token that starts at `at`, of a place in the text, 0 for none.
+fn place_in(at: usize, found: Option<NonZeroUsize>) -> usize
+    ensures { result ≡ place_of found - at }
 {
-    if found < at {
-        return 0;
-    }
-    found - at
+    found.map_or(0, |place| place.get().saturating_sub(at))
 }
 
 // A hardware identifier, or what else begins with a dollar sign.
 fn wire(at: usize, f: Figures) -> Piece
-    ensures { Plainly at (kind_number f.kind) f.misplaced f.cursor.at (kind_number result.kind) result.suffix result.misplaced result.end }
+    ensures { Plainly at (kind_number f.kind) (place_of f.misplaced) f.cursor.at (kind_number result.kind) result.suffix result.misplaced result.end }
 {
     Piece {
         kind: f.kind,
@@ -60,21 +58,16 @@ fn string(text: &[u8], from: Cursor, letters: Letters<'_>) -> Piece
     ensures { StringAt (start_in letters.entry.start.now) (more_in letters.entry.more.now) text.now from.at (kind_number result.kind) result.suffix result.misplaced result.end }
 {
     let q = double_quoted_string(text, from);
-    let cursor = q.cursor;
-    if q.closed {
-        let end = eat_literal_suffix(text, cursor, letters);
-        return Piece {
-            kind: q.kind,
-            suffix: cursor.at,
-            misplaced: 0,
-            end: end.at,
-        };
-    }
+    let end = if q.closed {
+        eat_literal_suffix(text, q.cursor, letters)
+    } else {
+        q.cursor
+    };
     Piece {
         kind: q.kind,
-        suffix: cursor.at,
+        suffix: q.cursor.at,
         misplaced: 0,
-        end: cursor.at,
+        end: end.at,
     }
 }
 
@@ -90,21 +83,15 @@ fn numeral(
     ensures { NumberAt (start_in letters.entry.start.now) (more_in letters.entry.more.now) first_digit text.now at from.at (kind_number result.kind) result.suffix result.misplaced result.end }
 {
     let n = number(text, from, first_digit);
-    let cursor = n.cursor;
-    let misplaced = place_in(at, n.misplaced);
-    if has_timing_or_imaginary_suffix(text, cursor) {
-        return Piece {
-            kind: n.kind,
-            suffix: cursor.at,
-            misplaced,
-            end: cursor.at,
-        };
-    }
-    let end = eat_literal_suffix(text, cursor, letters);
+    let end = if has_timing_or_imaginary_suffix(text, n.cursor) {
+        n.cursor
+    } else {
+        eat_literal_suffix(text, n.cursor, letters)
+    };
     Piece {
         kind: n.kind,
-        suffix: cursor.at,
-        misplaced,
+        suffix: n.cursor.at,
+        misplaced: place_in(at, n.misplaced),
         end: end.at,
     }
 }

@@ -1,11 +1,11 @@
 // Comments.
 ghost use Rattle.std.specs.Prelude.{◌≡◌, ◌+◌, ◌≤◌, ◌<◌, length, get_or};
+ghost use Rattle.cutters.specs.Numbers.{kind_number};
 ghost use Rattle.lexer.specs.Cut.{opens, closes, block, slash};
 ghost use Rattle.lexer.specs.Steps.{Parted};
-ghost use Rattle.cutters.specs.Numbers.{kind_number};
 
 use crate::cursor::{Cursor, byte};
-use cutters::{Kind};
+use cutters::Kind;
 
 // A kind, and the cursor behind the token.
 #[derive(Clone, Copy)]
@@ -14,7 +14,7 @@ pub struct Part {
     pub cursor: Cursor,
 }
 
-// Whether a block comment is closed, and the cursor behind it.
+// Whether a block comment is closed, and the cursor behind it, which there is either way.
 #[derive(Clone, Copy)]
 pub struct Block {
     pub closed: bool,
@@ -25,20 +25,14 @@ fn is_open(text: &[u8], at: usize) -> bool
     requires { at < length text.now }
     ensures { result ≡ opens (get_or text.now at 0) (get_or text.now (at + 1) 0) }
 {
-    if byte(text, at) == 0x2F {
-        return byte(text, at + 1) == 0x2A;
-    }
-    false
+    byte(text, at) == 0x2F && byte(text, at + 1) == 0x2A
 }
 
 fn is_close(text: &[u8], at: usize) -> bool
     requires { at < length text.now }
     ensures { result ≡ closes (get_or text.now at 0) (get_or text.now (at + 1) 0) }
 {
-    if byte(text, at) == 0x2A {
-        return byte(text, at + 1) == 0x2F;
-    }
-    false
+    byte(text, at) == 0x2A && byte(text, at + 1) == 0x2F
 }
 
 // Behind the slash and the asterisk that open a block comment, byte by byte: only ASCII opens or closes. Block comments nest.
@@ -58,19 +52,17 @@ fn block_comment(text: &[u8], from: Cursor) -> Block
         if is_open(text, at) {
             depth = depth + 1;
             at = at + 2;
-        } else {
-            if is_close(text, at) {
-                depth = depth - 1;
-                at = at + 2;
-                if depth == 0 {
-                    break Block {
-                        closed: true,
-                        cursor: Cursor { at },
-                    };
-                }
-            } else {
-                at = at + 1;
+        } else if is_close(text, at) {
+            depth = depth - 1;
+            at = at + 2;
+            if depth == 0 {
+                break Block {
+                    closed: true,
+                    cursor: Cursor { at },
+                };
             }
+        } else {
+            at = at + 1;
         }
     }
 }
@@ -80,30 +72,23 @@ pub fn slash(text: &[u8], from: Cursor) -> Part
     requires { from.at ≤ length text.now }
     ensures { Parted slash text.now from.at (kind_number result.kind) result.cursor.at }
 {
-    let x = from.first(text);
-    if x == 0x2F {
-        let cursor = from.bump(text).eat_line(text);
-        return Part {
+    match from.first(text) {
+        0x2F => Part {
             kind: Kind::LineComment,
-            cursor,
-        };
-    }
-    if x == 0x2A {
-        let b = block_comment(text, from.bump(text));
-        let cursor = b.cursor;
-        if b.closed {
-            return Part {
-                kind: Kind::BlockComment { terminated: true },
-                cursor,
-            };
+            cursor: from.bump(text).eat_line(text),
+        },
+        0x2A => {
+            let b = block_comment(text, from.bump(text));
+            Part {
+                kind: Kind::BlockComment {
+                    terminated: b.closed,
+                },
+                cursor: b.cursor,
+            }
         }
-        return Part {
-            kind: Kind::BlockComment { terminated: false },
-            cursor,
-        };
-    }
-    Part {
-        kind: Kind::Slash,
-        cursor: from,
+        _ => Part {
+            kind: Kind::Slash,
+            cursor: from,
+        },
     }
 }

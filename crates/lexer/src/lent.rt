@@ -3,7 +3,7 @@ ghost use Rattle.std.specs.Prelude.{◌≡◌};
 ghost use Rattle.lexer.specs.Cut.{wide_emoji, goes_on};
 ghost use Rattle.lexer.specs.Unicode.{start_in, more_in, emoji_in, unicode, letters_in};
 
-use ucd::{is_emoji_in, is_xid_continue_in, is_xid_start_in, tables};
+use ucd::{Emoji, Property, XidContinue, XidStart, is_in};
 
 // What begins an identifier, what goes on with one, and what is an emoji: tables of ranges, whatever they hold.
 #[derive(Clone, Copy)]
@@ -19,28 +19,28 @@ impl<'t> Letters<'t> {
         ensures { letters_in result ≡ unicode }
     {
         Letters {
-            start: &tables::XID_START,
-            more: &tables::XID_CONTINUE,
-            emoji: &tables::EMOJI,
+            start: XidStart::table(),
+            more: XidContinue::table(),
+            emoji: Emoji::table(),
         }
     }
 
     pub fn is_id_start(self, c: u32) -> bool
         ensures { result ≡ start_in self.entry.start.now c }
     {
-        c == 0x5F || is_xid_start_in(self.start, c)
+        c == 0x5F || is_in::<XidStart>(self.start, c)
     }
 
     pub fn is_id_continue(self, c: u32) -> bool
         ensures { result ≡ more_in self.entry.more.now c }
     {
-        is_xid_continue_in(self.more, c)
+        is_in::<XidContinue>(self.more, c)
     }
 
     pub fn is_wide_emoji(self, c: u32) -> bool
         ensures { result ≡ wide_emoji (emoji_in self.entry.emoji.now) c }
     {
-        0x80 <= c && is_emoji_in(self.emoji, c)
+        0x80 <= c && is_in::<Emoji>(self.emoji, c)
     }
 
     // Whether an identifier that holds an emoji goes on with c.

@@ -1,13 +1,14 @@
 // Quoted texts.
-ghost use Rattle.std.specs.Prelude.{◌≡◌, cond, ◌&&◌, ◌||◌, ◌+◌, ◌≤◌, ◌<◌, min, eqb, length, get_or};
-ghost use Rattle.lexer.specs.Cut.{escapes};
+ghost use Rattle.std.specs.Prelude.{◌≡◌, cond, ◌+◌, ◌≤◌, ◌<◌, min, length, get_or};
 ghost use Rattle.cutters.specs.Kinds.{str, bit_str};
-ghost use Rattle.lexer.specs.Steps.{Quoted, Added, bits_by};
 ghost use Rattle.cutters.specs.Numbers.{kind_number};
+ghost use Rattle.lexer.specs.Cut.{escapes};
+ghost use Rattle.lexer.specs.Steps.{Quoted, Added, bits_by, lines_number};
 
 use crate::cursor::{Cursor, byte};
-use cutters::{Kind};
+use cutters::Kind;
 
+// A quoted text: whether it is closed, its kind, and the cursor behind it.
 #[derive(Clone, Copy)]
 pub struct Quote {
     pub closed: bool,
@@ -15,116 +16,89 @@ pub struct Quote {
     pub cursor: Cursor,
 }
 
-// What was seen of a quoted text: whether all of it is 0, 1, an underscore or LF; how many LF there are, none, one or many;
-// whether two underscores stand side by side; and the last character. The Rust counts LF in 32 bits, which wrap; a second one
-// settles what the count is asked for, so counting no further gives the same.
+// How many LF there are. The Rust counts them in 32 bits, which wrap; a second one settles what the count is asked for, so counting no
+// further gives the same.
+#[derive(Clone, Copy)]
+enum Lines {
+    Zero,
+    One,
+    Many,
+}
+
+// What was seen of a quoted text: whether all of it is 0, 1, an underscore or LF; how many LF there are; whether two underscores stand
+// side by side; and the last character.
 #[derive(Clone, Copy)]
 struct Body {
     plain: bool,
-    lines: u32,
+    lines: Lines,
     twice: bool,
     prev: u32,
 }
 
-fn count_lines(lines: u32, c: u32) -> u32
-    requires { lines ≤ 2 }
-    ensures { result ≡ min 2 (lines + cond (eqb c 0x0A) 1 0) }
-{
-    if c != 0x0A {
-        return lines;
-    }
-    if lines == 2 {
-        return 2;
-    }
-    lines + 1
-}
-
-fn is_twice(twice: bool, prev: u32, c: u32) -> bool
-    ensures { result ≡ (twice || (eqb prev 0x5F && eqb c 0x5F)) }
-{
-    if twice {
-        return true;
-    }
-    if prev == 0x5F {
-        return c == 0x5F;
-    }
-    false
-}
-
-// One character more.
-fn add(b: Body, c: u32) -> Body
-    requires { b.lines ≤ 2 }
-    ensures { Added c b.plain b.lines b.twice b.prev result.plain result.lines result.twice result.prev }
-{
-    let kept = Body {
-        plain: b.plain,
-        lines: b.lines,
-        twice: b.twice,
-        prev: c,
-    };
-    if c == 0x30 {
-        return kept;
-    }
-    if c == 0x31 {
-        return kept;
-    }
-    if c == 0x5F {
-        let twice = is_twice(b.twice, b.prev, c);
-        return Body { twice, ..kept };
-    }
-    if c == 0x0A {
-        let lines = count_lines(b.lines, c);
-        return Body { lines, ..kept };
-    }
-    Body {
-        plain: false,
-        ..kept
+impl Lines {
+    fn more(self) -> Lines
+        ensures { lines_number result ≡ min 2 (lines_number self + 1) }
+    {
+        match self {
+            Lines::Zero => Lines::One,
+            Lines::One | Lines::Many => Lines::Many,
+        }
     }
 }
 
-// Whether all of it is bits; an unclosed text may end in one LF.
-fn is_bits(closed: bool, plain: bool, lines: u32, prev: u32) -> bool
-    ensures { result ≡ bits_by closed plain lines prev }
-{
-    if !plain {
-        return false;
+impl Body {
+    // One character more.
+    fn add(self, c: u32) -> Body
+        ensures { Added c self.plain (lines_number self.lines) self.twice self.prev result.plain (lines_number result.lines) result.twice result.prev }
+    {
+        let kept = Body { prev: c, ..self };
+        match c {
+            0x30 | 0x31 => kept,
+            0x5F => Body {
+                twice: self.twice || self.prev == 0x5F,
+                ..kept
+            },
+            0x0A => Body {
+                lines: self.lines.more(),
+                ..kept
+            },
+            _ => Body {
+                plain: false,
+                ..kept
+            },
+        }
     }
-    if lines == 0 {
-        return true;
-    }
-    if closed {
-        return false;
-    }
-    if lines == 1 {
-        return prev == 0x0A;
-    }
-    false
-}
 
-fn quote_kind(closed: bool, bits: bool, twice: bool) -> Kind
-    ensures { kind_number result ≡ cond bits (bit_str closed twice) (str closed) }
-{
-    if bits {
-        return Kind::BitStr {
-            terminated: closed,
-            consecutive_underscores: twice,
-        };
+    // Whether all of it is bits; an unclosed text may end in one LF.
+    fn is_bits(self, closed: bool) -> bool
+        ensures { result ≡ bits_by closed self.plain (lines_number self.lines) self.prev }
+    {
+        self.plain && match self.lines {
+            Lines::Zero => true,
+            Lines::One => !closed && self.prev == 0x0A,
+            Lines::Many => false,
+        }
     }
-    Kind::Str { terminated: closed }
+
+    fn kind(self, closed: bool) -> Kind
+        ensures { kind_number result ≡ cond (bits_by closed self.plain (lines_number self.lines) self.prev) (bit_str closed self.twice) (str closed) }
+    {
+        if self.is_bits(closed) {
+            Kind::BitStr {
+                terminated: closed,
+                consecutive_underscores: self.twice,
+            }
+        } else {
+            Kind::Str { terminated: closed }
+        }
+    }
 }
 
 fn is_escape(text: &[u8], at: usize) -> bool
     requires { at < length text.now }
     ensures { result ≡ escapes (get_or text.now at 0) (get_or text.now (at + 1) 0) }
 {
-    if byte(text, at) == 0x5C {
-        let x = byte(text, at + 1);
-        if x == 0x5C {
-            return true;
-        }
-        return x == 0x22;
-    }
-    false
+    byte(text, at) == 0x5C && matches!(byte(text, at + 1), 0x5C | 0x22)
 }
 
 // Behind a double quote, byte by byte: only ASCII ends it or is a bit.
@@ -135,34 +109,30 @@ pub fn double_quoted_string(text: &[u8], from: Cursor) -> Quote
     let mut at = from.at;
     let mut body = Body {
         plain: true,
-        lines: 0,
+        lines: Lines::Zero,
         twice: false,
         prev: 0,
     };
     while at < text.len() {
         let c = byte(text, at);
         if c == 0x22 {
-            let bits = is_bits(true, body.plain, body.lines, body.prev);
-            let kind = quote_kind(true, bits, body.twice);
             return Quote {
                 closed: true,
-                kind,
+                kind: body.kind(true),
                 cursor: Cursor { at: at + 1 },
             };
         }
-        body = add(body, c);
+        body = body.add(c);
         if is_escape(text, at) {
-            body = add(body, byte(text, at + 1));
+            body = body.add(byte(text, at + 1));
             at = at + 2;
         } else {
             at = at + 1;
         }
     }
-    let bits = is_bits(false, body.plain, body.lines, body.prev);
-    let kind = quote_kind(false, bits, body.twice);
     Quote {
         closed: false,
-        kind,
+        kind: body.kind(false),
         cursor: Cursor { at },
     }
 }

@@ -1,56 +1,25 @@
 // Identifiers, pragmas, annotations and hardware identifiers.
 ghost use Rattle.std.specs.Prelude.{◌≡◌, ◌∷◌, ◌≤◌, length};
 ghost use Rattle.characters.specs.Text.{left};
-ghost use Rattle.lexer.specs.Cut.{name, word, pound, annotated, hardware};
-ghost use Rattle.lexer.specs.Unicode.{start_in, more_in, emoji_in, lent};
-ghost use Rattle.lexer.specs.Steps.{Parted, Agreed, Wired};
 ghost use Rattle.cutters.specs.Numbers.{kind_number};
+ghost use Rattle.lexer.specs.Cut.{agree, name, word, pound, annotated, hardware};
+ghost use Rattle.lexer.specs.Unicode.{start_in, more_in, emoji_in};
+ghost use Rattle.lexer.specs.Steps.{Parted, Wired, place_of};
 
 use crate::comments::Part;
-use crate::lent::Letters;
 use crate::cursor::{Cursor, byte};
+use crate::lent::Letters;
 use crate::numbers::Figures;
-use characters::utf8::decode;
-use cutters::{Kind};
+use cutters::Kind;
 
 // The word that makes a Pragma of a line.
-const PRAGMA_WORD: [u8; 6] = *b"pragma";
+static PRAGMA_WORD: [u8; 6] = *b"pragma";
 
-// How many characters of the text agree with a word, and the cursor behind them.
-#[derive(Clone, Copy)]
-struct Agreement {
-    count: usize,
-    cursor: Cursor,
-}
-
-fn agree_with(text: &[u8], from: Cursor, word: &[u8]) -> Agreement
-    requires { from.at ≤ length text.now }
-    ensures { Agreed word.now text.now from.at result.count result.cursor.at }
+// How many bytes of a text agree with a word.
+fn agree_with(text: &[u8], word: &[u8]) -> usize
+    ensures { result ≡ agree word.now text.now }
 {
-    let mut at = from.at;
-    let mut count: usize = 0;
-    while count < word.len() {
-        if text.len() <= at {
-            return Agreement {
-                count,
-                cursor: Cursor { at },
-            };
-        }
-        let d = decode(text, at);
-        let w = word[count] as u32;
-        if d.code != w {
-            return Agreement {
-                count,
-                cursor: Cursor { at },
-            };
-        }
-        at = at + d.wide;
-        count = count + 1;
-    }
-    Agreement {
-        count,
-        cursor: Cursor { at },
-    }
+    text.iter().zip(word).take_while(|(b, w)| b == w).count()
 }
 
 // Behind a number sign: the bytes of `pragma` make a Pragma of the line.
@@ -58,18 +27,16 @@ pub fn pound(text: &[u8], from: Cursor) -> Part
     requires { from.at ≤ length text.now }
     ensures { Parted pound text.now from.at (kind_number result.kind) result.cursor.at }
 {
-    let a = agree_with(text, from, &PRAGMA_WORD);
-    if a.count == PRAGMA_WORD.len() {
-        let cursor = from.eat_line(text);
+    let n = agree_with(&text[from.at..], &PRAGMA_WORD);
+    if n == PRAGMA_WORD.len() {
         return Part {
             kind: Kind::Pragma,
-            cursor,
+            cursor: from.eat_line(text),
         };
     }
-    let cursor = a.cursor;
     Part {
         kind: Kind::InvalidIdent,
-        cursor,
+        cursor: Cursor { at: from.at + n },
     }
 }
 
@@ -80,10 +47,9 @@ fn wide_name(text: &[u8], from: Cursor, letters: Letters<'_>) -> Part
 {
     let cursor = from.eat_id_continue(text, letters);
     if letters.is_wide_emoji(cursor.first(text)) {
-        let cursor = cursor.eat_fake(text, letters);
         return Part {
             kind: Kind::InvalidIdent,
-            cursor,
+            cursor: cursor.eat_fake(text, letters),
         };
     }
     Part {
@@ -120,15 +86,11 @@ pub fn ident_or_unknown_prefix(
     requires { (own.at ≤ length text.now) × (from.at ≤ length text.now) × (left text.now own.at ≡ c ∷ left text.now from.at) }
     ensures { Parted (word (more_in letters.entry.more.now) (emoji_in letters.entry.emoji.now) profile c) text.now from.at (kind_number result.kind) result.cursor.at }
 {
-    if profile == 1 {
-        let a = agree_with(text, own, &PRAGMA_WORD);
-        if a.count == PRAGMA_WORD.len() {
-            let cursor = from.eat_line(text);
-            return Part {
-                kind: Kind::Pragma,
-                cursor,
-            };
-        }
+    if profile == 1 && text[own.at..].starts_with(&PRAGMA_WORD) {
+        return Part {
+            kind: Kind::Pragma,
+            cursor: from.eat_line(text),
+        };
     }
     name(text, from, letters)
 }
@@ -139,10 +101,9 @@ pub fn annotation(text: &[u8], from: Cursor, letters: Letters<'_>) -> Part
     ensures { Parted (annotated (start_in letters.entry.start.now)) text.now from.at (kind_number result.kind) result.cursor.at }
 {
     if letters.is_id_start(from.first(text)) {
-        let cursor = from.eat_line(text);
         return Part {
             kind: Kind::Annotation,
-            cursor,
+            cursor: from.eat_line(text),
         };
     }
     Part {
@@ -154,29 +115,20 @@ pub fn annotation(text: &[u8], from: Cursor, letters: Letters<'_>) -> Part
 // Behind a dollar sign.
 pub fn hardware_ident(text: &[u8], from: Cursor, letters: Letters<'_>) -> Figures
     requires { from.at ≤ length text.now }
-    ensures { (Parted (hardware (more_in letters.entry.more.now) (emoji_in letters.entry.emoji.now)) text.now from.at (kind_number result.kind) result.cursor.at) × (Wired text.now from.at (kind_number result.kind) result.misplaced result.cursor.at) }
+    ensures { (Parted (hardware (more_in letters.entry.more.now) (emoji_in letters.entry.emoji.now)) text.now from.at (kind_number result.kind) result.cursor.at) × (Wired text.now from.at (kind_number result.kind) (place_of result.misplaced) result.cursor.at) }
 {
     if letters.is_wide_emoji(from.first(text)) {
         let mid = from.eat_id_continue(text, letters);
-        let cursor = mid.eat_fake(text, letters);
         return Figures {
             kind: Kind::InvalidIdent,
-            misplaced: 0,
-            cursor,
+            misplaced: None,
+            cursor: mid.eat_fake(text, letters),
         };
     }
-    let d = from.eat_decimal_digits(text);
-    let cursor = d.cursor;
-    if d.any {
-        return Figures {
-            kind: Kind::HardwareIdent,
-            misplaced: d.misplaced,
-            cursor,
-        };
-    }
+    let d = from.eat_digits::<false>(text);
     Figures {
-        kind: Kind::Dollar,
+        kind: if d.any { Kind::HardwareIdent } else { Kind::Dollar },
         misplaced: d.misplaced,
-        cursor,
+        cursor: d.cursor,
     }
 }

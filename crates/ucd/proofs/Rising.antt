@@ -1,20 +1,20 @@
 -- The tables: one test, `rises`, computed once over each whole table, says that it is sorted and its ranges disjoint, and a lemma carries
 -- it to each entry. So the search in it is membership, ASCII can be decided first, and only scalar values are in it: one law for every table.
 -- Assumes nothing.
-use mathlib.Core.Path.{◌≡◌, refl, sym}
+use mathlib.Core.Path.{◌≡◌, refl, sym, ap, subst, ◌∙◌}
 use mathlib.Core.Bool.{Bool, true, false, ◌&&◌, ◌||◌, false≢true}
 use mathlib.Core.List.{List, [], ◌∷◌, ◌++◌}
 use Prim.Native.Nat.{ℕ, zero, suc, ◌+◌, ◌*◌, ◌≤◌, ◌<◌}
 use native.Mathlib.Nat.{le_refl}
 use native.Mathlib.Omega.{arith}
 use lib.Dec.{T, leb, ltb, leb→le}
-use lib.ListN.{length, get_or, drop}
+use lib.ListN.{length, get_or}
 use borrow.Author.Tests.{lt-leb, leb-true, ltb-true}
 use Rattle.lists.proofs.Bools.{by_test, both_T}
 use Rattle.characters.specs.Utf8.{is_scalar}
 use Rattle.characters.specs.Ranges.{Range, ◌to◌, in_table, flat}
 use Rattle.ucd.specs.Ucd.{xid_start, xid_continue, emoji, white_space}
-use Rattle.ucd.specs.Order.{Sorted, rises, InOrder}
+use Rattle.ucd.specs.Order.{Sorted, rises, InOrder, starts, AsciiFirst, start_first, continue_first, emoji_first, space_first}
 use Rattle.ucd.specs.Properties.{is_xid_start, is_xid_continue, is_emoji, is_white_space, ascii_start, ascii_continue, ascii_emoji, ascii_space, tested_in}
 use Rattle.characters.proofs.First.{scalar_low, scalar_high}
 use Rattle.ucd.proofs.Search.{searched_is, even, odd}
@@ -82,11 +82,6 @@ unfolding in_table
 only_first p c [] t r h = none_below p c t r h
 only_first p c (x ∷ s) t r h = rw (only_first p c s t r h)
 
--- the second part begins at p or after it
-abbrev starts : ℕ → List Range → Bool
-starts p [] = true
-starts p (lo to hi ∷ t) = leb p lo
-
 raised : (q p : ℕ) (t : List Range) → T (rises q t) → T (starts p t) → T (rises p t)
 raised q p [] r b = tt
 raised q p (x to y ∷ t) r b =
@@ -106,13 +101,13 @@ second_rises q p (x to y ∷ s) t r b = second_rises (suc y) p s t (first_of q x
 in_order : (t : List Range) → T (rises 0 t) → InOrder t
 in_order t r = record { rise = r; sorted = sorted_from 0 t r; disjoint = apart 0 t r }
 
--- in a table in order, whose ranges below 80 stand first, the test over the lent list is membership
-pub tested_is : (ascii rest : List Range) → InOrder (ascii ++ rest) → T (starts 0x80 rest) → (c : ℕ) → tested_in ascii (flat (ascii ++ rest)) c ≡ in_table c (ascii ++ rest)
+-- in a table in order that begins with its ASCII, the test over the lent list is membership
+pub tested_is : (ascii table : List Range) → AsciiFirst ascii table → (c : ℕ) → tested_in ascii (flat table) c ≡ in_table c table
 unfolding tested_in
-tested_is ascii rest o b c =
+tested_is ascii table a c =
     by_test (ltb c 0x80)
-    (λ h. rw h (sym (only_first 0x80 c ascii rest (second_rises 0 0x80 ascii rest o.rise b) (ltb-true c 0x80 h))))
-    (λ h. rw h (searched_is (ascii ++ rest) c o.sorted))
+    (λ h. rw h (sym (ap (in_table c) a.whole ∙ only_first 0x80 c ascii a.rest (second_rises 0 0x80 ascii a.rest (subst (λ t. T (rises 0 t)) a.whole a.rise) a.behind) (ltb-true c 0x80 h))))
+    (λ h. rw h (searched_is table c (in_order table a.rise).sorted))
 
 -- ---- only scalar values are in a table whose ranges hold no other number
 abbrev pub scalars : List Range → Bool
@@ -139,37 +134,29 @@ scalar_in (lo to hi ∷ t) s c h =
 
 -- ---- the four tables: the test is computed once over each
 pub start_in_order : InOrder xid_start
-unfolding xid_start
-start_in_order = in_order xid_start tt
+start_in_order = in_order xid_start start_first.rise
 
 pub continue_in_order : InOrder xid_continue
-unfolding xid_continue
-continue_in_order = in_order xid_continue tt
+continue_in_order = in_order xid_continue continue_first.rise
 
 pub emoji_in_order : InOrder emoji
-unfolding emoji
-emoji_in_order = in_order emoji tt
+emoji_in_order = in_order emoji emoji_first.rise
 
 pub space_in_order : InOrder white_space
-unfolding white_space
-space_in_order = in_order white_space tt
+space_in_order = in_order white_space space_first.rise
 
 module _ (c : ℕ) where
   pub start_is : tested_in ascii_start (flat xid_start) c ≡ is_xid_start c
-  unfolding xid_start ascii_start
-  start_is = tested_is ascii_start (drop 2 xid_start) start_in_order tt c
+  start_is = tested_is ascii_start xid_start start_first c
 
   pub continue_is : tested_in ascii_continue (flat xid_continue) c ≡ is_xid_continue c
-  unfolding xid_continue ascii_continue
-  continue_is = tested_is ascii_continue (drop 4 xid_continue) continue_in_order tt c
+  continue_is = tested_is ascii_continue xid_continue continue_first c
 
   pub emoji_is : tested_in ascii_emoji (flat emoji) c ≡ is_emoji c
-  unfolding emoji ascii_emoji
-  emoji_is = tested_is ascii_emoji (drop 3 emoji) emoji_in_order tt c
+  emoji_is = tested_is ascii_emoji emoji emoji_first c
 
   pub space_is : tested_in ascii_space (flat white_space) c ≡ is_white_space c
-  unfolding white_space ascii_space
-  space_is = tested_is ascii_space (drop 2 white_space) space_in_order tt c
+  space_is = tested_is ascii_space white_space space_first c
 
   -- and a number that is no scalar value is in none of them
   pub start_scalar : is_xid_start c ≡ true → is_scalar c ≡ true

@@ -1,161 +1,151 @@
 // The tests of a code point: XID_Start, XID_Continue, Emoji and White_Space of the Unicode Character Database.
-// A constant that is lent is stored anew where its function starts, so each test has a form that takes the property's table
-// as a slice: a caller that asks about many characters lends it once. ASCII is decided before any table, and so the function that lends
-// the constant is one of its own.
 #![tactic(auto)]
 
-ghost use Rattle.std.specs.Prelude.{◌≡◌};
-ghost use Rattle.characters.specs.Ranges.{in_table, flat};
-ghost use Rattle.ucd.specs.Search.{searched};
+ghost use Rattle.std.specs.Prelude.{◌≡◌, List};
+ghost use Rattle.characters.specs.Ranges.{Range, in_table, flat};
 ghost use Rattle.ucd.specs.Ucd.{xid_start, xid_continue, emoji, white_space};
+ghost use Rattle.ucd.specs.Order.{AsciiFirst, start_first, continue_first, emoji_first, space_first};
 ghost use Rattle.ucd.specs.Properties.{is_xid_start, is_xid_continue, is_emoji, is_white_space, ascii_start, ascii_continue, ascii_emoji, ascii_space, tested_in};
 
 mod ranges;
 pub mod tables;
 
-use ranges::{in_range, search};
+use ranges::search;
 
-// The letters.
-fn ascii_start(c: u8) -> bool
-    ensures { result ≡ in_table c ascii_start }
-{
-    if in_range(0x41, 0x5A, c) {
-        return true;
-    }
-    in_range(0x61, 0x7A, c)
+// A property that characters have or not.
+pub trait Property {
+    // The ranges below 0x80 that have it.
+    ghost ascii: { List Range };
+
+    // All ranges that have it.
+    ghost all: { List Range };
+
+    // Whether an ASCII character has it.
+    fn is_ascii(c: u8) -> bool
+        ensures { result ≡ in_table c ascii };
+
+    // Its table, low and high end of each range in turn.
+    fn table() -> &'static [u32]
+        ensures { result.now ≡ flat all };
+
+    // So the search among all of them, after the test of ASCII, finds what has it.
+    ghost ascii_first: { AsciiFirst ascii all };
 }
 
-// The letters, the digits and the underscore.
-fn ascii_continue(c: u8) -> bool
-    ensures { result ≡ in_table c ascii_continue }
-{
-    if in_range(0x30, 0x39, c) {
-        return true;
+pub struct XidStart;
+
+pub struct XidContinue;
+
+pub struct Emoji;
+
+pub struct WhiteSpace;
+
+#[tactic(auto, unfolding(crate::specs::Properties::ascii_start, crate::specs::Ucd::xid_start, characters::specs::Ranges::in_table))]
+impl Property for XidStart {
+    ghost ascii = { ascii_start };
+
+    ghost all = { xid_start };
+
+    ghost ascii_first = { start_first };
+
+    fn is_ascii(c: u8) -> bool {
+        c.is_ascii_alphabetic()
     }
-    if in_range(0x41, 0x5A, c) {
-        return true;
+
+    fn table() -> &'static [u32] {
+        &tables::XID_START
     }
-    if in_range(0x5F, 0x5F, c) {
-        return true;
-    }
-    in_range(0x61, 0x7A, c)
 }
 
-// The number sign, the asterisk and the digits.
-fn ascii_emoji(c: u8) -> bool
-    ensures { result ≡ in_table c ascii_emoji }
-{
-    if in_range(0x23, 0x23, c) {
-        return true;
+#[tactic(auto, unfolding(crate::specs::Properties::ascii_continue, crate::specs::Ucd::xid_continue, characters::specs::Ranges::in_table))]
+impl Property for XidContinue {
+    ghost ascii = { ascii_continue };
+
+    ghost all = { xid_continue };
+
+    ghost ascii_first = { continue_first };
+
+    fn is_ascii(c: u8) -> bool {
+        c.is_ascii_alphanumeric() || c == b'_'
     }
-    if in_range(0x2A, 0x2A, c) {
-        return true;
+
+    fn table() -> &'static [u32] {
+        &tables::XID_CONTINUE
     }
-    in_range(0x30, 0x39, c)
 }
 
-// Tab, LF, VT, FF, CR and the space.
-fn ascii_space(c: u8) -> bool
-    ensures { result ≡ in_table c ascii_space }
-{
-    if in_range(0x09, 0x0D, c) {
-        return true;
+#[tactic(auto, unfolding(crate::specs::Properties::ascii_emoji, crate::specs::Ucd::emoji, characters::specs::Ranges::in_table))]
+impl Property for Emoji {
+    ghost ascii = { ascii_emoji };
+
+    ghost all = { emoji };
+
+    ghost ascii_first = { emoji_first };
+
+    fn is_ascii(c: u8) -> bool {
+        matches!(c, b'#' | b'*' | b'0'..=b'9')
     }
-    in_range(0x20, 0x20, c)
+
+    fn table() -> &'static [u32] {
+        &tables::EMOJI
+    }
 }
 
-pub fn is_xid_start_in(table: &[u32], c: u32) -> bool
-    ensures { result ≡ tested_in ascii_start table.now c }
+#[tactic(auto, unfolding(crate::specs::Properties::ascii_space, crate::specs::Ucd::white_space, characters::specs::Ranges::in_table))]
+impl Property for WhiteSpace {
+    ghost ascii = { ascii_space };
+
+    ghost all = { white_space };
+
+    ghost ascii_first = { space_first };
+
+    fn is_ascii(c: u8) -> bool {
+        matches!(c, b'\t'..=b'\r' | b' ')
+    }
+
+    fn table() -> &'static [u32] {
+        &tables::WHITE_SPACE
+    }
+}
+
+// Whether a character has the property P over a table that is lent in place of its own.
+pub fn is_in<P: Property>(table: &[u32], c: u32) -> bool
+    ensures { result ≡ tested_in P.ascii table.now c }
 {
     if c < 0x80 {
-        return ascii_start(c as u8);
+        P::is_ascii(c as u8)
+    } else {
+        search(table, c)
     }
-    search(table, c)
 }
 
-pub fn is_xid_continue_in(table: &[u32], c: u32) -> bool
-    ensures { result ≡ tested_in ascii_continue table.now c }
+// Whether a character has the property P.
+fn has<P: Property>(c: u32) -> bool
+    ensures { result ≡ in_table c P.all }
 {
-    if c < 0x80 {
-        return ascii_continue(c as u8);
-    }
-    search(table, c)
-}
-
-pub fn is_emoji_in(table: &[u32], c: u32) -> bool
-    ensures { result ≡ tested_in ascii_emoji table.now c }
-{
-    if c < 0x80 {
-        return ascii_emoji(c as u8);
-    }
-    search(table, c)
-}
-
-pub fn is_white_space_in(table: &[u32], c: u32) -> bool
-    ensures { result ≡ tested_in ascii_space table.now c }
-{
-    if c < 0x80 {
-        return ascii_space(c as u8);
-    }
-    search(table, c)
-}
-
-fn wide_start(c: u32) -> bool
-    ensures { result ≡ searched (flat xid_start) c }
-{
-    search(&tables::XID_START, c)
+    is_in::<P>(P::table(), c)
 }
 
 pub fn is_xid_start(c: u32) -> bool
     ensures { result ≡ is_xid_start c }
 {
-    if c < 0x80 {
-        return ascii_start(c as u8);
-    }
-    wide_start(c)
-}
-
-fn wide_continue(c: u32) -> bool
-    ensures { result ≡ searched (flat xid_continue) c }
-{
-    search(&tables::XID_CONTINUE, c)
+    has::<XidStart>(c)
 }
 
 pub fn is_xid_continue(c: u32) -> bool
     ensures { result ≡ is_xid_continue c }
 {
-    if c < 0x80 {
-        return ascii_continue(c as u8);
-    }
-    wide_continue(c)
-}
-
-fn wide_emoji(c: u32) -> bool
-    ensures { result ≡ searched (flat emoji) c }
-{
-    search(&tables::EMOJI, c)
+    has::<XidContinue>(c)
 }
 
 pub fn is_emoji(c: u32) -> bool
     ensures { result ≡ is_emoji c }
 {
-    if c < 0x80 {
-        return ascii_emoji(c as u8);
-    }
-    wide_emoji(c)
-}
-
-fn wide_space(c: u32) -> bool
-    ensures { result ≡ searched (flat white_space) c }
-{
-    search(&tables::WHITE_SPACE, c)
+    has::<Emoji>(c)
 }
 
 pub fn is_white_space(c: u32) -> bool
     ensures { result ≡ is_white_space c }
 {
-    if c < 0x80 {
-        return ascii_space(c as u8);
-    }
-    wide_space(c)
+    has::<WhiteSpace>(c)
 }

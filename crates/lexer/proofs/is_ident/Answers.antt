@@ -1,12 +1,9 @@
-use Rattle.lexer.proofs.Ident.{identifying}
 use borrow.Author.Rules.{rules}
+use Rattle.lexer.proofs.Ident.{identified_refused, identified_done}
 use Rattle.lexer.proofs.is_ident.Goals as goal
 
-pub returns-then-checked-ne-DONE : goal.returns-then-checked-ne-DONE
-returns-then-checked-ne-DONE c = search (rules, identifying)
-
-pub returns-then-lend_ident : goal.returns-then-lend_ident
-returns-then-lend_ident c = search (rules, identifying)
+pub returns-in_err-check_text : goal.returns-in_err-check_text
+returns-in_err-check_text c = search (rules, identified_refused)
 
 pub returns : goal.returns
-returns c = search (rules, identifying)
+returns c = identified_done _ (search rules) c.unicode.ensures c.is_ident_in.ensures

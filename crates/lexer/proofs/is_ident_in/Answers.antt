@@ -7,8 +7,8 @@ use Rattle.lexer.proofs.is_ident_in.Goals as goal
 pub returns-then-text-eq0 : goal.returns-then-text-eq0
 returns-then-text-eq0 c = search (rules, identifying)
 
-pub returns-then-not-is_id_start_in : goal.returns-then-not-is_id_start_in
-returns-then-not-is_id_start_in c = search (rules, identifying)
+pub returns-then-not-is_id_start : goal.returns-then-not-is_id_start
+returns-then-not-is_id_start c = search (rules, identifying)
 
 pub eat_id_continue-end-requires : goal.eat_id_continue-end-requires
 eat_id_continue-end-requires c = omega (arith, decoded_fits)

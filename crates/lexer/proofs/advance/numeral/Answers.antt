@@ -1,22 +1,25 @@
-use Rattle.lexer.proofs.Advancing.{advancing}
-use Rattle.lexer.proofs.Digits.{suffixes}
 use borrow.Author.Rules.{rules}
+use Rattle.characters.specs.Steps.{Place}
+use Rattle.characters.specs.Text.{left}
+use Rattle.lexer.specs.Cut.{number_suffix}
+use Rattle.lexer.specs.Unicode.{start_in, more_in}
+use Rattle.lexer.proofs.Advancing.{number_at}
+use Rattle.lexer.proofs.Digits.{suffix_unit, suffix_eaten}
+use Rattle.lexer.proofs.advance.numeral.Goals.{then-has_timing_or_imaginary_suffix, else-has_timing_or_imaginary_suffix}
 use Rattle.lexer.proofs.advance.numeral.Goals as goal
 
-pub number-n-requires : goal.number-n-requires
-number-n-requires c = search (rules, advancing, suffixes)
-
-pub place_in-misplaced-requires : goal.place_in-misplaced-requires
-place_in-misplaced-requires c = search (rules, advancing, suffixes)
-
-pub has_timing_or_imaginary_suffix-requires : goal.has_timing_or_imaginary_suffix-requires
-has_timing_or_imaginary_suffix-requires c = search (rules, advancing, suffixes)
-
-pub returns-then-has_timing_or_imaginary_suffix : goal.returns-then-has_timing_or_imaginary_suffix
-returns-then-has_timing_or_imaginary_suffix c = search (rules, advancing, suffixes)
-
-pub eat_literal_suffix-end-requires : goal.eat_literal_suffix-end-requires
-eat_literal_suffix-end-requires c = search (rules, advancing, suffixes)
-
 pub returns : goal.returns
-returns c = search (rules, advancing, suffixes)
+returns c =
+    let s = c.args.text.now in
+    let at = c.number-n.result.cursor.at in
+    let start = c.args.letters.start.now in
+    let more = c.args.letters.more.now in
+    let place : Place s at c.if-has_timing_or_imaginary_suffix.end.at (number_suffix (start_in start) (more_in more) (left s at)) =
+    elim c.if-has_timing_or_imaginary_suffix.branch [
+      | then-has_timing_or_imaginary_suffix w ↦
+          rw w.end-is (suffix_unit start more s at c.has_timing_or_imaginary_suffix.ensures (search rules) c.number-n.ensures.part.place.within)
+      | else-has_timing_or_imaginary_suffix w ↦
+          rw w.end-is (suffix_eaten start more s at c.has_timing_or_imaginary_suffix.ensures (search rules) w.eat_literal_suffix-end.ensures)
+    ]
+    in
+    number_at _ _ c.number-n.ensures c.place_in.ensures place

@@ -2,8 +2,5 @@ use Rattle.lexer.proofs.Digits.{numbering}
 use borrow.Author.Rules.{rules}
 use Rattle.lexer.proofs.numbers.exponent_of.Goals as goal
 
-pub returns-then-e : goal.returns-then-e
-returns-then-e c = search (rules, numbering)
-
 pub returns : goal.returns
 returns c = search (rules, numbering)

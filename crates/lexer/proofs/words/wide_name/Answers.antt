@@ -1,10 +1,9 @@
-use Rattle.lexer.proofs.Flags.{pick_yes, pick_no}
 use Rattle.lexer.proofs.Names.{naming}
 use borrow.Author.Rules.{rules}
 use Rattle.lexer.proofs.words.wide_name.Goals as goal
 
 pub returns-then-is_wide_emoji : goal.returns-then-is_wide_emoji
-returns-then-is_wide_emoji c = search (rules, naming, pick_yes, pick_no)
+returns-then-is_wide_emoji c = search (rules, naming)
 
 pub returns : goal.returns
-returns c = search (rules, naming, pick_yes, pick_no)
+returns c = search (rules, naming)

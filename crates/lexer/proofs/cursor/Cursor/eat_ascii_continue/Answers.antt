@@ -1,22 +1,14 @@
-use native.Mathlib.Omega.{arith}
-use Rattle.lexer.proofs.Bytewise.{ran_wide, ran_halt}
-use Rattle.characters.proofs.Text.{eating}
-use Rattle.characters.proofs.Ascii.{ascii}
-use Rattle.lexer.proofs.Bytewise.{running}
-use borrow.Author.Rules.{rules}
+use Rattle.std.proofs.lemmas.List.{take_rest}
+use Rattle.std.proofs.Common.{ap, ◌∙◌, rules}
+use borrow.Author.Tests.{tests}
+use Rattle.std.specs.List.{position_or_len}
+use Rattle.std.proofs.lemmas.Iterator.{YieldsList-from_slice}
+use Rattle.std.proofs.lemmas.Iterator.Search.{position_from_yields_List}
+use Rattle.lexer.specs.Unicode.{more_in}
+use Rattle.lexer.proofs.Bytewise.{halts, first_place, ran}
 use Rattle.lexer.proofs.cursor.Cursor.eat_ascii_continue.Goals as goal
 
-pub loop-at-init : goal.loop-at-init
-loop-at-init c = search (rules, eating, ascii, running)
-
-pub returns-then-b-ge128 : goal.returns-then-b-ge128
-returns-then-b-ge128 c = ran_wide c.loop-at.invariant c.byte-b.ensures (omega arith)
-
-pub returns-then-not-is_xid_continue_in : goal.returns-then-not-is_xid_continue_in
-returns-then-not-is_xid_continue_in c = ran_halt c.loop-at.invariant c.byte-b.ensures c.is_xid_continue_in.ensures c.if-not-is_xid_continue_in.true
-
-pub loop-at-preserved : goal.loop-at-preserved
-loop-at-preserved c = search (rules, eating, ascii, running)
-
 pub returns : goal.returns
-returns c = search (rules, eating, ascii, running)
+returns c =
+    let more = more_in c.args.letters.more.now in
+    ran more (search rules) (first_place (halts more) _ (position_from_yields_List (halts more) _ _ c.position.result c.position.ensures.ran (YieldsList-from_slice _ c.iter.ensures.rest) (λ x b q k. search (rules, tests))) c.unwrap_or-n.ensures ∙ ap (position_or_len (halts more)) (take_rest c.args.text.now c.args.self.at))

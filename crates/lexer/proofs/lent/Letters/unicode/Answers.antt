@@ -1,7 +1,5 @@
-use Rattle.ucd.specs.Ucd.{xid_start, xid_continue, emoji}
 use Rattle.lexer.proofs.Unicode.{lent_is}
 use Rattle.lexer.proofs.lent.Letters.unicode.Goals as goal
 
 pub returns : goal.returns
-unfolding xid_start xid_continue emoji
-returns c = lent_is
+returns c = rw (c.table.ensures, c.table-2.ensures, c.table-3.ensures) lent_is
