@@ -1,10 +1,10 @@
 -- The direction marks: what stops a walk, and their bytes; the first fault of a text is the first of the two kinds; a text without marks, and the first
 -- mark of one that holds any.
 -- Assumes nothing.
-use Prim.Native.Nat.{ℕ, ◌+◌, ◌-◌, ◌*◌, ◌%◌, ◌≤◌, ◌<◌, min}
+use Prim.Native.Nat.{ℕ, ◌+◌, ◌-◌, ◌*◌, ◌%◌, ◌<◌, min}
 use native.Mathlib.Omega.{arith}
 use mathlib.Core.Path.{◌≡◌, refl, ap, sym, ◌∙◌}
-use mathlib.Core.Bool.{Bool, true, false, ◌&&◌, ◌||◌, not, cond, false≢true}
+use mathlib.Core.Bool.{Bool, true, false, ◌&&◌, ◌||◌, not, false≢true}
 use mathlib.Core.List.{List, [], ◌∷◌, ◌++◌}
 use lib.Dec.{leb}
 use lib.ListN.{length, get_or, drop}
@@ -93,13 +93,12 @@ clear_low s at h l p i j =
     let b = rw e at (h (p - at) (omega arith) l) in
     simp (ne_eqb (get_or s (p + 3) 0) 0xE2 b, and_false)
 
-pub clear_none : (s : List ℕ) (at : ℕ) {m : ℕ} → ((k : ℕ) → k < 32 → cond (spells (get_or s (at + 1 + k) 0) (get_or s (at + 1 + k + 1) 0) (get_or s (at + 1 + k + 2) 0)) 1 0 ≤ m) → m ≤ 0 → Clear s at
-clear_none s at h l p i j =
+pub clear_none : (s : List ℕ) (at : ℕ) → ((k : ℕ) → k < 32 → spells (get_or s (at + 1 + k) 0) (get_or s (at + 1 + k + 1) 0) (get_or s (at + 1 + k + 2) 0) ≡ false) → Clear s at
+clear_none s at h p i j =
     let x : at + 1 + (p + 2 - at) ≡ p + 3 = omega arith in
     let y : p + 3 + 1 ≡ p + 4 = omega arith in
     let z : p + 3 + 2 ≡ p + 5 = omega arith in
-    let b = rw (x, y, z) at (h (p + 2 - at) (omega arith)) in
-    by_test (spells (get_or s (p + 3) 0) (get_or s (p + 4) 0) (get_or s (p + 5) 0)) (λ t. absurd (omega (arith, rw t at b))) (λ t. t)
+    rw (x, y, z) at (h (p + 2 - at) (omega arith))
 
 -- ---- the first of two kinds
 before_either : (p q : ℕ → Bool) (l : List ℕ) → bytes_before (λ c. p c || q c) l ≡ min (bytes_before p l) (bytes_before q l)

@@ -122,17 +122,11 @@ module _ (t : List ℕ) (c : ℕ) {n : ℕ} (e : n ≡ among t c) where
   search_starts h = searching_none t c 0 n (omega arith) (omega (arith, among_most t c))
 
   module _ {k : ℕ} (h : n ≡ 0 → ⊥) (f : k ≡ narrowed n t c 0 n) where
-    searched_by : searched t c ≡ in_range c (get_or t (2 * k) 0 to get_or t (2 * k + 1) 0)
+    pub searched_by : searched t c ≡ in_range c (get_or t (2 * k) 0 to get_or t (2 * k + 1) 0)
     unfolding searched
     searched_by =
         let g : found t c ≡ k = rw (← e) (sym f) in
         rw (ne_eqb (among t c) 0 (λ z. h (e ∙ z)), g)
-
-    pub search_below : c < get_or t (2 * k) 0 → false ≡ searched t c
-    search_below l = sym (searched_by ∙ rw (lt-leb (get_or t (2 * k) 0) c l))
-
-    pub search_above : {r : Bool} → get_or t (2 * k) 0 ≤ c → r ≡ leb c (get_or t (2 * k + 1) 0) → r ≡ searched t c
-    search_above l q = q ∙ sym (searched_by ∙ rw (le-leb (get_or t (2 * k) 0) c l))
 
 -- ---- membership by the list of a table's ends
 unfoldable in_ends : ℕ → List ℕ → Bool
