@@ -5,10 +5,9 @@ use native.Mathlib.Decide.{dec_lt}
 use native.Mathlib.Omega.{arith}
 use mathlib.Core.Path.{◌≡◌, refl, ap, sym, ◌∙◌, subst}
 use mathlib.Core.Logic.{◌⊎◌, inl, inr}
-use mathlib.Core.List.{List, [], ◌∷◌, ◌++◌, append_assoc}
+use mathlib.Core.List.{List, [], ◌∷◌, ◌++◌}
 use lib.ListN.{length, take, drop, get_or, length-take, length-drop, drop_of_length-le}
-use lib.Seq.{sets, sets-eq, length-sets, take_all, take-nil}
-use borrow.Rule.Slice.PartMut.{put_mid, Post-is}
+use lib.Seq.{sets, length-sets, take_all, take-nil}
 use lib.Dec.{ltb}
 use borrow.Author.Tests.{lt-ltb, le-ltb}
 use Rattle.lists.proofs.Bools.{by_test}
@@ -52,12 +51,6 @@ pub record Filling (u : Letters) (profile : ℕ) (s : List ℕ) (from : ℕ) (li
   pub place : at + total (run_from u profile s at (room - n)) ≡ from + total (run_from u profile s from room)
   pub rest : drop (room - n) (tokens_by u profile (drop at s)) ≡ drop room (tokens_by u profile (drop from s))
   pub same : sets list k (flat_from s at (run_from u profile s at (room - n))) ≡ sets list₀ 0 (flat_from s from (run_from u profile s from room))
-
--- the words of a record that are copied into the list at a place
-pub words_stored : {part w : List ℕ} (list : List ℕ) (k : ℕ) → part ≡ w → length w ≡ record_words → k + record_words ≤ length list → put_mid k (k + record_words - k) list part ≡ sets list k w
-words_stored {w = w} list k e n h =
-    rw (e, ← n)
-    (ap (λ (l : List ℕ). take k list ++ (w ++ l)) (Post-is k (k + length w) list (omega arith)) ∙ sym (append_assoc (take k list) w (drop (k + length w) list)) ∙ sym (sets-eq w list k (omega (arith, n))))
 
 pub filling_none : (u : Letters) (profile : ℕ) (s : List ℕ) (from : ℕ) (list : List ℕ) {full : ℕ} → full ≡ length list / record_words * record_words → Filling u profile s from list full from 0 list
 filling_none u profile s from list {full} r =
@@ -259,12 +252,22 @@ module _ (u : Letters) (profile : ℕ) (s : List ℕ) (at : ℕ) where
   unfolding front misplaced_of misplaced_in
   one_none h =
       let e = none_of h in
-      record { kind_is = rw e; suffix_is = rw e (omega arith); found_is = rw e; end_is = rw e (omega arith) }
+      record {
+        kind_is = sym (ap (λ (t : Token). t.kind) e);
+        suffix_is = omega (arith, ap (λ (t : Token). t.suffix) e);
+        found_is = sym (ap (misplaced_at s at) e);
+        end_is = omega (arith, ap (λ (t : Token). t.len) e);
+      }
 
   pub one_token : {kind suffixAt found end : ℕ} → length s ≤ longest → Advanced u profile s at kind suffixAt found end → TokenAt u profile s at kind suffixAt found end
   one_token h a =
-      let e = first_of h in
-      record { kind_is = rw e a.kind_is; suffix_is = rw e a.suffix_is; found_is = rw e a.found_is; end_is = rw e a.end_is }
+      let e = sym (first_of h) in
+      record {
+        kind_is = a.kind_is ∙ ap (λ (t : Token). t.kind) e;
+        suffix_is = a.suffix_is ∙ ap (λ (t : Token). at + t.suffix) e;
+        found_is = a.found_is ∙ ap (misplaced_at s at) e;
+        end_is = a.end_is ∙ ap (λ (t : Token). at + t.len) e;
+      }
 
 -- a place of the token is at or behind its start, and within the text
 module _ {u : Letters} {profile : ℕ} {s : List ℕ} {at kind suffixAt found end : ℕ} (a : TokenAt u profile s at kind suffixAt found end) where

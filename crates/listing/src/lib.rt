@@ -1,10 +1,12 @@
 // The list of tokens of a whole text, or of a run of them from a place on, the words of a record for each.
 #![tactic(auto)]
 
-ghost use Rattle.std.specs.Prelude.{◌≡◌, ◌-◌, ◌≤◌, ◌<◌, [], ◌∷◌, length};
+ghost use Rattle.std.specs.Prelude.{◌≡◌, ◌+◌, ◌-◌, ◌≤◌, [], ◌∷◌, length};
+ghost use Rattle.std.proofs.lemmas.List.Edits.{sets};
 ghost use Rattle.text.specs.Answer.{longest};
 ghost use Rattle.text.specs.Refusals.{given};
 ghost use Rattle.cutters.specs.Numbers.{kind_number};
+ghost use Rattle.cutters.specs.Records.{record_words};
 ghost use Rattle.lexer.specs.Unicode.{letters_in};
 ghost use Rattle.lexer.specs.Promises.{tokens_by};
 ghost use Rattle.listing.specs.Promises.{Listed, CutRun, TokenAt};
@@ -25,22 +27,23 @@ pub struct Run {
     pub count: usize,
 }
 
-// The words of the record of a token that starts at a place.
-fn words(at: usize, t: Piece) -> [u32; RECORD]
-    requires { Placed at t.suffix t.misplaced t.end }
-    ensures { result ≡ kind_number t.kind ∷ (t.end - at) ∷ (t.suffix - at) ∷ at ∷ t.misplaced ∷ [] }
+// Stores the record of a token that starts at a place, from word k on: word by word, since `copy_from_slice` compiles to a test for overlap and
+// to the stores twice.
+fn put(list: &mut [u32], k: usize, at: usize, t: Piece)
+    requires room { k + record_words ≤ length list.old }
+    requires places { Placed at t.suffix t.misplaced t.end }
+    ensures { list.new ≡ sets list.old k (kind_number t.kind ∷ (t.end - at) ∷ (t.suffix - at) ∷ at ∷ t.misplaced ∷ []) }
 {
-    [
-        t.kind.number(),
-        (t.end - at) as u32,
-        (t.suffix - at) as u32,
-        at as u32,
-        t.misplaced as u32,
-    ]
+    list[k] = t.kind.number();
+    list[k + 1] = (t.end - at) as u32;
+    list[k + 2] = (t.suffix - at) as u32;
+    list[k + 3] = at as u32;
+    list[k + 4] = t.misplaced as u32;
 }
 
 // Fills the list with tokens from a place on, until it is full or the text ends. It is the one loop around the cutter, which is so
-// compiled into it. It counts words and not records: a record's first word is then found with nothing worked out.
+// compiled into it. It counts words and not records: a record's first word is then found with nothing worked out. A loop over
+// `chunks_exact_mut` does not prove: what is written through a chunk is not known of the list afterwards.
 fn fill(text: &[u8], from: usize, profile: u32, list: &mut [u32], letters: Letters<'_>) -> Run
     requires { length text.now ≤ longest }
     ensures { Filled (letters_in letters.entry) profile text.now from list.old result.at result.count list.new }
@@ -50,7 +53,7 @@ fn fill(text: &[u8], from: usize, profile: u32, list: &mut [u32], letters: Lette
     let mut k: usize = 0;
     while k < full && at < text.len() {
         let t = advance_token(text, at, profile, letters);
-        list[k..k + RECORD].copy_from_slice(&words(at, t));
+        put(list, k, at, t);
         k += RECORD;
         at = t.end;
     }

@@ -2,21 +2,21 @@
 -- Assumes nothing.
 use mathlib.Core.Path.{◌≡◌, refl, ap, sym, ◌∙◌}
 use mathlib.Core.Bool.{Bool, true, false, cond, not, ◌&&◌, ◌||◌}
+use Rattle.std.specs.Prelude.{Option, Some, None}
 use mathlib.Core.List.{List}
-use Prim.Native.Nat.{ℕ, ◌+◌, ◌≤◌, ◌<◌}
+use Prim.Native.Nat.{ℕ, zero, suc, ◌+◌, ◌≤◌, ◌<◌}
 use native.Mathlib.Decide.{dec_lt, ℕ_discrete}
 use native.Mathlib.Omega.{arith}
 use lib.Dec.{T, eqb, leb, eqb→eq}
 use lib.ListN.{length, get_or}
-use borrow.Author.Tests.{le-leb, lt-leb, leb-true, ne_eqb}
+use borrow.Author.Tests.{le-leb, lt-leb, leb-true, ne_eqb, eqb-true, eqb-false}
 use Rattle.lists.specs.Steps.{values_from}
 use Rattle.lists.proofs.Bools.{by_test, both, or_true, on_cond}
-use Rattle.lists.proofs.Values.{values_at}
 use Rattle.characters.proofs.Rows.{every, each}
 use Rattle.cutters.specs.Kinds.{is_plain, is_literal}
 use Rattle.tokens.specs.Members.{is_counted}
 use Rattle.renewal.specs.Key.{is_mark, is_text, no_body, body_length}
-use Rattle.renewal.specs.Steps.{bodies}
+use Rattle.renewal.specs.Steps.{body_at}
 
 -- ---- of every number
 pub no_kind : (k : ℕ) → 62 ≤ k → body_length k ≡ no_body
@@ -97,16 +97,32 @@ plain_body k h c z =
     eqb→eq (body_length k) 4
     (let t = by_kind (λ k. is_plain k && is_counted k) (λ k. eqb (body_length k) 0 || eqb (body_length k) 4) tt k (plain_small k h) (rw (h, c)) in rw (ne_eqb (body_length k) 0 z) at t)
 
--- ---- the constant
-bodies_long : length bodies ≡ 62
-unfolding bodies values_from
-bodies_long = refl
+-- ---- the table: what it has for a number is the rule's
+bodies_at : (n k i : ℕ) (d : Option ℕ) → i < n → get_or (values_from body_at k n) i d ≡ body_at (k + i)
+unfolding values_from
+bodies_at zero k i d h = absurd (omega arith)
+bodies_at (suc n) k zero d h = let e : k + 0 ≡ k = omega arith in rw e
+bodies_at (suc n) k (suc i) d h = let e : k + suc i ≡ suc k + i = omega arith in rw e (bodies_at n (suc k) i d (omega arith))
 
-pub body_read : {table : List ℕ} (k : ℕ) {r : ℕ} → table ≡ bodies → k < length table → r ≡ get_or table k 0 → r ≡ body_length k
-unfolding bodies
-body_read k t h e =
-    let l : k < 62 = omega (arith, ap length t, bodies_long) in
-    e ∙ ap (λ (l : List ℕ). get_or l k 0) t ∙ values_at body_length 62 0 k l ∙ (let z : 0 + k ≡ k = omega arith in rw z)
+pub body_read : (table : List (Option ℕ)) (k : ℕ) (d : Option ℕ) → table ≡ values_from body_at 0 62 → k < 62 → get_or table k d ≡ body_at k
+body_read table k d e h =
+    ap (λ (l : List (Option ℕ)). get_or l k d) e ∙ bodies_at 62 0 k d h ∙ (let z : 0 + k ≡ k = omega arith in rw z)
 
-pub body_none : {table : List ℕ} (k : ℕ) {r : ℕ} → table ≡ bodies → length table ≤ k → r ≡ no_body → r ≡ body_length k
-body_none k t h e = e ∙ sym (no_kind k (omega (arith, ap length t, bodies_long)))
+pub body_none : (k : ℕ) → 62 ≤ k → ◌≡◌ {A = Option ℕ} None (body_at k)
+body_none k h = rw (no_kind k h)
+
+-- what is in the key, and what is not
+pub body_some : (kind : ℕ) {body : ℕ} → Some body ≡ body_at kind → (body ≡ body_length kind) × (body ≡ no_body → ⊥)
+body_some kind {body} e =
+    by_test (eqb (body_length kind) no_body)
+    (λ t. let f : ◌≡◌ {A = Option ℕ} (Some body) None = rw t at e in absurd (cc))
+    (λ t.
+    let f : ◌≡◌ {A = Option ℕ} (Some body) (Some (body_length kind)) = rw t at e in
+    let k : body ≡ body_length kind = cc in
+    (k, λ z. eqb-false _ _ t (sym k ∙ z)))
+
+pub body_no : (kind : ℕ) → ◌≡◌ {A = Option ℕ} None (body_at kind) → body_length kind ≡ no_body
+body_no kind e =
+    by_test (eqb (body_length kind) no_body)
+    (λ t. eqb-true _ _ t)
+    (λ t. let f : ◌≡◌ {A = Option ℕ} None (Some (body_length kind)) = rw t at e in absurd (cc))

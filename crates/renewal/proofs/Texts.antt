@@ -70,13 +70,9 @@ take_few l n e =
       | no m ↦ let q : n ≡ 16 = omega arith in (ap (λ (k : ℕ). take k l) q, ap (λ (k : ℕ). drop k l) q)
     ]
 
-texts_first : (l : List ℕ) (n : ℕ) → 1 ≤ length l → n ≡ min 16 (length l) → texts l ≡ (128 + n) ∷ (take n l ++ texts (drop n l))
+pub texts_first : (l : List ℕ) (n : ℕ) → 1 ≤ length l → n ≡ min 16 (length l) → texts l ≡ (128 + n) ∷ (take n l ++ texts (drop n l))
 texts_first [] n h e = absurd (omega arith)
 texts_first (a ∷ t) n h e =
     let x = take_few (a ∷ t) n e in
     let m : length (take 16 (a ∷ t)) ≡ n = omega (arith, length-take 16 (a ∷ t)) in
     texts_cons a t ∙ rw (x.0, x.1) (ap (λ (k : ℕ). (128 + k) ∷ (take 16 (a ∷ t) ++ texts (drop 16 (a ∷ t)))) m)
-
-pub texts_at : (s : List ℕ) (i n : ℕ) → i < length s → n ≡ min 16 (length s - i) → texts (drop i s) ≡ (128 + n) ∷ (take n (drop i s) ++ texts (drop (i + n) s))
-texts_at s i n h e =
-    texts_first (drop i s) n (omega (arith, length-drop i s)) (omega (arith, length-drop i s)) ∙ (rw (drop-drop n i s))

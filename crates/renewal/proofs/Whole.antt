@@ -12,16 +12,15 @@ use borrow.Author.Tests.{eq-eqb}
 use Rattle.characters.specs.Direction.{unmarked_up_to}
 use Rattle.text.specs.Answer.{Answered, done, room_too_small, direction_mark, check_cut, CutMarked}
 use Rattle.text.specs.Steps.{Entered}
-use Rattle.text.proofs.Checks.{cut_passed}
+use Rattle.text.specs.declared.Refusal.{Refusal}
+use Rattle.text.specs.Refusals.{refused}
+use Rattle.text.proofs.Checks.{cut_accepted, never_done}
 use Rattle.text.proofs.Marks.{marked_refused}
 use Rattle.text.proofs.Room as room
 use Rattle.cutters.specs.Records.{Token}
 use Rattle.lexer.specs.Cut.{Letters}
-use Rattle.characters.specs.Ranges.{flat}
-use Rattle.ucd.specs.Ucd.{xid_start, xid_continue, emoji}
-use Rattle.lexer.specs.Unicode.{lent}
+use Rattle.lexer.specs.Unicode.{unicode}
 use Rattle.lexer.specs.Promises.{tokens3, profile3, tokens_of, tokens_by}
-use Rattle.lexer.proofs.Unicode.{lent_is}
 use Rattle.tokens.specs.Members.{members3, members_of}
 use Rattle.tokens.proofs.OpenQasm.{members_known}
 use Rattle.renewal.specs.Key.{key_of, key_by, key_of_text}
@@ -36,51 +35,41 @@ use Rattle.renewal.proofs.Exactly.{exactly_when}
 pub room_enough : (u : Letters) (profile : ℕ) (s key : List ℕ) → length s ≤ length key / 11 → length (key_by (tokens_by u profile) s) ≤ length key
 room_enough u profile s key l = omega (arith, key_few_by (keyable u profile) s)
 
-module _ (cutter : List ℕ → List Token) {s key key' : List ℕ} {n number also : ℕ} where
-  stored : Walked cutter s true key n key' → n ≤ length key → number ≡ done → also ≡ n → StoredKey cutter s key number also key'
-  stored w l k a = room.stored_all w.size l (omega (arith, w.size)) w.key_is k a
+module _ (cutter : List ℕ → List Token) {s key : List ℕ} where
+  -- what is sized leaves the memory as it was
+  pub stored_none : {n : ℕ} {key' : List ℕ} → Walked cutter s false key n key' → length key' < n → StoredKey cutter s key room_too_small n key'
+  stored_none w l = room.stored_none w.size (rw w.key_is at l) w.key_is refl refl
 
-  pub stored_all : Walked cutter s true key n key' → length s ≤ length key / 11 → number ≡ done → also ≡ n → StoredKey cutter s key number also key'
-  stored_all w l k a = stored w (omega (arith, w.few)) k a
+  pub sized_fits : {n : ℕ} {key' : List ℕ} → Walked cutter s false key n key' → n ≤ length key' → (key' ≡ key) × (length (key_by cutter s) ≤ length key)
+  sized_fits w l = (w.key_is, omega (arith, w.size, ap length w.key_is))
 
-  pub stored_none : Walked cutter s false key n key' → length key' < n → number ≡ room_too_small → also ≡ n → StoredKey cutter s key number also key'
-  stored_none w l k a =
-      let h : length key < n = rw w.key_is at l in
-      room.stored_none w.size h w.key_is k a
-
--- sized first, and then written
-pub room_sized : {cutter : List ℕ → List Token} {s key key' : List ℕ} {n : ℕ} → Walked cutter s false key n key' → n ≤ length key' → length (key_by cutter s) ≤ length key'
-room_sized w l = omega (arith, w.size)
-
-pub stored_twice : (cutter : List ℕ → List Token) {s key key' key'' : List ℕ} {n m number also : ℕ} → Walked cutter s false key n key' → n ≤ length key' → Walked cutter s true key' m key'' → number ≡ done → also ≡ n → StoredKey cutter s key number also key''
-stored_twice cutter {s} {key} {key'} {key''} {n} {m} v l w k a =
-    let e : key' ≡ key = v.key_is in
-    let w' : Walked cutter s true key m key'' = rw e at w in
-    let h : n ≤ length key = rw e at l in
-    stored cutter w' (omega (arith, v.size, w.size, h)) k (omega (arith, v.size, w.size))
-
--- over the constant tables
-pub lent_stored : (profile : ℕ) (s : List ℕ) {number also : ℕ} {key key' : List ℕ} → StoredKey (tokens_by (lent (flat xid_start) (flat xid_continue) (flat emoji)) profile) s key number also key' → StoredKey (tokens3 profile) s key number also key'
-unfolding tokens3
-lent_stored profile s {number} {also} {key} {key'} r = subst (λ (u : Letters). StoredKey (tokens_by u profile) s key number also key') lent_is r
+  -- and what has room is written
+  pub stored_all : {n : ℕ} {key' key'' : List ℕ} → key' ≡ key → length (key_by cutter s) ≤ length key → Walked cutter s true key' n key'' → StoredKey cutter s key done n key''
+  stored_all {n} {key'' = key''} e h w₀ =
+      let w : Walked cutter s true key n key'' = rw e at w₀ in
+      room.stored_all w.size (omega (arith, w.size)) h w.key_is refl refl
 
 -- ---- the whole
 keyed_by : {s key key' : List ℕ} {profile number also : ℕ} → Entered (check_cut s profile) (length key) (length (key_by (tokens_of profile) s)) (key_by (tokens_of profile) s) key number also key' → Keyed s profile key number also key'
 unfolding answer_of keyed key_of_text members_of key_by
 keyed_by e = record { answer = e.answer; key_is = e.memory }
 
-pub keyed_refused : {s key key' : List ℕ} {profile number also : ℕ} → Answered (check_cut s profile) number also → (number ≡ done → ⊥) → key' ≡ key → Keyed s profile key number also key'
-keyed_refused a n e = keyed_by (room.refused a n e)
+pub keyed_refused : (s key : List ℕ) (profile : ℕ) (r : Refusal) → refused r ≡ check_cut s profile → Keyed s profile key (refused r).0 (refused r).1 key
+keyed_refused s key profile r e =
+    keyed_by (room.refused (record { number_is = ap (λ (x : ℕ × ℕ). x.0) e; also_is = ap (λ (x : ℕ × ℕ). x.1) e }) (never_done r) refl)
 
 -- under its profiles the key is that of OpenQASM 3's tokens
 key_known : (profile : ℕ) (s : List ℕ) → profile3 profile ≡ true → key_by (tokens3 profile) s ≡ key_by (tokens_of profile) s
 unfolding key_by members3 members_of
 key_known profile s h = ap key_of (sym (members_known profile s h))
 
-pub keyed_done : {s key key' : List ℕ} {profile n₀ a₀ number also : ℕ} → Answered (check_cut s profile) n₀ a₀ → n₀ ≡ done → StoredKey (tokens3 profile) s key number also key' → Keyed s profile key number also key'
-keyed_done {s} {profile = profile} c z r =
-    let e = key_known profile s (cut_passed s profile c z).known in
-    keyed_by (room.passed c z (rw e at r))
+pub keyed_done : {u : Letters} (s : List ℕ) (profile : ℕ) {key key' : List ℕ} {number also : ℕ} → (done, 0) ≡ check_cut s profile → u ≡ unicode → StoredKey (tokens_by u profile) s key number also key' → Keyed s profile key number also key'
+unfolding tokens3
+keyed_done s profile {key} {key'} {number} {also} c l r₀ =
+    let z : (check_cut s profile).0 ≡ done = ap (λ (x : ℕ × ℕ). x.0) (sym c) in
+    let e = key_known profile s (cut_accepted s profile z).known in
+    let r : StoredKey (tokens3 profile) s key number also key' = subst (λ (u : Letters). StoredKey (tokens_by u profile) s key number also key') l r₀ in
+    keyed_by (room.passed (record { number_is = refl; also_is = refl }) z (rw e at r))
 
 -- ---- what a call that is done has written: the key of an accepted text
 pub done_accepted : {s : List ℕ} {profile : ℕ} {key : List ℕ} {a : ℕ} {key' : List ℕ} → Keyed s profile key done a key' → (check_cut s profile).0 ≡ done

@@ -7,25 +7,37 @@ use native.Mathlib.Nat.{add-zero}
 use native.Mathlib.Numerals.{add-one, add-two, add-three}
 use mathlib.Core.Path.{◌≡◌, refl, ap, sym, ◌∙◌}
 use mathlib.Core.Bool.{Bool, true, false}
-use mathlib.Core.List.{List, [], ◌∷◌, ◌++◌}
+use mathlib.Core.List.{List, [], ◌∷◌, ◌++◌, append_assoc}
 use lib.ListN.{length, take, drop, set, get_or, length-set, length-append, length-take, length-drop, drop_of_length-le}
-use lib.Seq.{sets, set-set, drop-cons, drop-drop, drop_at, take-take, length-take-le, take_all, take-add}
+use lib.Seq.{sets, sets-eq, set-set, drop-cons, drop-drop, take_at, drop_at, take-take, length-take-le, length-sets, take_all, take-add}
+use borrow.Rule.Slice.PartMut.{put_mid, Post-is}
 use borrow.Author.Tests.{eq-eqb, ne_eqb}
 use Rattle.lists.proofs.Bools.{on_cond}
 use Rattle.lists.specs.Steps.{Put, PutIf}
-use Rattle.lists.proofs.Put.{sets_append, put_then, put_both}
+use Rattle.lists.proofs.Put.{put_then, put_both}
+use Rattle.lists.proofs.Store.{StoringFrom, storing_on, storing_put}
 use Rattle.renewal.specs.Key.{no_body, body_length, low_bytes, word, body_of, texts, encode}
 use Rattle.renewal.specs.Steps.{member, entry, size_by, BodyFits, Writable, Ready}
 use Rattle.renewal.proofs.Words.{digits_length}
-use Rattle.renewal.proofs.Texts.{texts_nil, texts_length, texts_at}
+use Rattle.renewal.proofs.Texts.{texts_nil, texts_length, texts_first}
 use Rattle.renewal.proofs.Bodies.{kind_small, body_eight, body_most}
 
--- ---- four bytes
-pub put_word : {out out' : List ℕ} {k r : ℕ} (n : ℕ) →
-    out' ≡ set (set (set (set out k (n % 256)) (k + 1) (n / 256 % 256)) (k + 2) (n / 256 / 256 % 256)) (k + 3) (n / 256 / 256 / 256 % 256) → r ≡ k + 4 → Put out k (word n) out' r
+-- ---- bytes that are copied into the key at a place
+stored_part : (w list : List ℕ) (k m : ℕ) → length w ≡ m → k + m ≤ length list → put_mid k (k + m - k) list w ≡ sets list k w
+stored_part w list k m n h =
+    rw (← n)
+    (ap (λ (l : List ℕ). take k list ++ (w ++ l)) (Post-is k (k + length w) list (omega arith)) ∙ sym (append_assoc (take k list) w (drop (k + length w) list)) ∙ sym (sets-eq w list k (omega (arith, n))))
+
+same_word : (n : ℕ) → ◌≡◌ {A = List ℕ} (n % 256 ∷ n / 256 % 256 ∷ n / 65536 % 256 ∷ n / 16777216 % 256 ∷ []) (word n)
 unfolding low_bytes
-put_word {out} {out'} {k} n u v =
-    record { same = rw (u, add-one, add-two, add-three); next = v; long = ap length u ∙ simp length-set }
+same_word n = let e : n / 65536 ≡ n / 256 / 256 = omega arith in let f : n / 16777216 ≡ n / 256 / 256 / 256 = omega arith in rw (e, f)
+
+pub put_word : {part key : List ℕ} {k : ℕ} (n : ℕ) → part ≡ n % 256 ∷ n / 256 % 256 ∷ n / 65536 % 256 ∷ n / 16777216 % 256 ∷ [] → k + 4 ≤ length key → Put key k (word n) (put_mid k (k + 4 - k) key part) (k + 4)
+unfolding low_bytes
+put_word {part} {key} {k} n e h =
+    let w : part ≡ word n = e ∙ same_word n in
+    let s : put_mid k (k + 4 - k) key part ≡ sets key k (word n) = rw w (stored_part (word n) key k 4 refl h) in
+    record { same = s; next = refl; long = ap length s ∙ length-sets key k (word n) }
 
 -- ---- a part of one to sixteen bytes
 four : (part : List ℕ) (i : ℕ) → i + 4 ≤ length part → take 4 (drop i part) ≡ get_or part i 0 ∷ get_or part (i + 1) 0 ∷ get_or part (i + 2) 0 ∷ get_or part (i + 3) 0 ∷ []
@@ -101,56 +113,29 @@ module _ (part : List ℕ) where
       put_both part m h g p (rw e at (rw l at q)) (omega arith)
 
 -- ---- text records stored one by one
-pub record Texting (out₀ : List ℕ) (k₀ : ℕ) (text out : List ℕ) (i k : ℕ) : Type 0 where
-  pub within : i ≤ length text
-  pub room : k + length (texts (drop i text)) ≤ length out
-  pub long : length out ≡ length out₀
-  pub next : k + length (texts (drop i text)) ≡ k₀ + length (texts text)
-  pub same : sets out k (texts (drop i text)) ≡ sets out₀ k₀ (texts text)
+-- a part of at most sixteen bytes is the next record
+module _ (text left part rest : List ℕ) {out₀ out : List ℕ} {k₀ k size : ℕ} (w : StoringFrom k₀ (texts text) true out₀ (texts left) k out)
+    (v : left ≡ part ++ rest) (z : size ≡ 16) (m : length part ≡ min size (length left)) (h : 0 < length left) where
+  texting_view : texts left ≡ ((128 + length part) ∷ part) ++ texts rest
+  texting_view =
+      texts_first left (length part) h (omega arith) ∙ rw v (rw (take_at part rest (length part) refl, drop_at part rest (length part) refl))
 
-pub texting_none : (out : List ℕ) (k : ℕ) (text : List ℕ) → k + length (texts text) ≤ length out → Texting out k text out 0 k
-texting_none out k text h = record { within = omega arith; room = h; long = refl; next = refl; same = refl }
+  texting_long : length (texts left) ≡ suc (length part) + length (texts rest)
+  texting_long = ap length texting_view ∙ length-append ((128 + length part) ∷ part) (texts rest)
 
-module _ {out₀ text out : List ℕ} {k₀ i k n : ℕ} (t : Texting out₀ k₀ text out i k) (h : i < length text) (m : n ≡ min 16 (length text - i)) where
-  texting_room : k + 1 + n ≤ length out
-  texting_room =
-      let r = texts (drop (i + n) text) in
-      let y : length (texts (drop i text)) ≡ suc (length (take n (drop i text)) + length r) =
-      ap length (texts_at text i n h m) ∙ ap suc (length-append (take n (drop i text)) r) in
-      omega (arith, t.room, y, length-take n (drop i text), length-drop i text)
+  pub texting_byte : k₀ + length (texts text) ≤ length out₀ → k + 1 ≤ length out
+  texting_byte r = omega (arith, w.count, w.long, texting_long)
 
-  pub texting_byte : k + 1 ≤ length out
-  texting_byte = omega (arith, texting_room)
+  pub texting_part : {b k₁ : ℕ} {out₁ : List ℕ} → k₀ + length (texts text) ≤ length out₀ → Put out k (b ∷ []) out₁ k₁ → (1 ≤ length part) × (length part ≤ 16) × (k₁ + length part ≤ length out₁)
+  texting_part r p = (omega arith, omega arith, omega (arith, w.count, w.long, texting_long, p.next, p.long))
 
-  pub texting_some : {e : ℕ} → e ≡ i + n → 1 ≤ length (take (e - i) (drop i text))
-  texting_some {e} v = omega (arith, length-take (e - i) (drop i text), length-drop i text)
+  pub texting_more : {out₁ out₂ : List ℕ} {k₁ k₂ : ℕ} → Put out k ((128 + length part) ∷ []) out₁ k₁ → Put out₁ k₁ part out₂ k₂ → StoringFrom k₀ (texts text) true out₀ (texts rest) k₂ out₂
+  texting_more p q =
+      let u = put_then p q refl in storing_on {vs = (128 + length part) ∷ part} {rest = texts rest} (rw texting_view at w) (record { same = u.same; next = u.next })
 
-  pub texting_most : {e : ℕ} → e ≡ i + n → length (take (e - i) (drop i text)) ≤ 16
-  texting_most {e} v = omega (arith, length-take (e - i) (drop i text))
-
-  pub texting_part : {b k₁ e : ℕ} {out₁ : List ℕ} → Put out k (b ∷ []) out₁ k₁ → e ≡ i + n → k₁ + length (take (e - i) (drop i text)) ≤ length out₁
-  texting_part {b} {k₁} {e} p v = omega (arith, texting_room, p.next, p.long, length-take (e - i) (drop i text))
-
-  pub texting_more : {out₁ out₂ : List ℕ} {b k₁ k₂ e : ℕ} → Put out k (b ∷ []) out₁ k₁ → b ≡ 128 + n → Put out₁ k₁ (take (e - i) (drop i text)) out₂ k₂ → e ≡ i + n → Texting out₀ k₀ text out₂ e k₂
-  texting_more {out₁} {out₂} {b} {k₁} {k₂} {e} p u q v =
-      let r = texts (drop (i + n) text) in
-      let c : e - i ≡ n = omega arith in
-      let w : Put out k (b ∷ take n (drop i text)) out₂ k₂ = put_then p (rw c at q) refl in
-      let x : texts (drop i text) ≡ (b ∷ take n (drop i text)) ++ r = texts_at text i n h m ∙ (rw u) in
-      let y : length (texts (drop i text)) ≡ length (b ∷ take n (drop i text)) + length r = ap length x ∙ length-append (b ∷ take n (drop i text)) r in
-      record {
-        within = omega arith;
-        room = rw v (omega (arith, t.room, y, w.next, w.long));
-        long = w.long ∙ t.long;
-        next = rw v (omega (arith, t.next, y, w.next));
-        same = rw (v, w.same, w.next) (sets_append (b ∷ take n (drop i text)) r out k ∙ ap (sets out k) (sym x) ∙ t.same);
-      }
-
-pub texting_end : {out₀ text out : List ℕ} {k₀ i k : ℕ} → Texting out₀ k₀ text out i k → length text ≤ i → Put out₀ k₀ (texts text) out k
-texting_end {out₀} {text} {out} {k₀} {i} {k} t h =
-    let d : drop i text ≡ [] = drop_of_length-le text {i = i} h in
-    let z : texts (drop i text) ≡ [] = ap texts d ∙ texts_nil in
-    record { same = sym (ap (sets out k) z) ∙ t.same; next = omega (arith, t.next, ap length z); long = t.long }
+pub texting_end : (text left : List ℕ) {out₀ out : List ℕ} {k₀ k : ℕ} → StoringFrom k₀ (texts text) true out₀ (texts left) k out → length left ≡ 0 → Put out₀ k₀ (texts text) out k
+texting_end text [] w h = let p = storing_put (rw texts_nil at w) in record { same = p.same; next = p.next; long = w.long }
+texting_end text (_ ∷ _) w h = absurd (omega (arith, h))
 
 -- ---- a body
 module _ {body k : ℕ} {key : List ℕ} (f : BodyFits body k key) where

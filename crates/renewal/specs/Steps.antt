@@ -1,6 +1,6 @@
 -- What the functions behind `renewal_key` ask and answer.
 -- Assumes nothing.
-use Rattle.std.specs.Prelude.{◌≡◌, Bool, true, cond, List, [], ◌∷◌, ◌++◌, ℕ, zero, suc, ◌+◌, ◌*◌, ◌/◌, ◌≤◌, eqb, length, take, drop, get_or}
+use Rattle.std.specs.Prelude.{◌≡◌, Bool, true, cond, Option, Some, None, List, [], ◌∷◌, ◌++◌, ℕ, zero, suc, ◌+◌, ◌*◌, ◌/◌, ◌≤◌, eqb, length, take, drop, get_or}
 use Rattle.std.proofs.lemmas.List.Edits.{sets}
 use Rattle.lists.specs.Steps.{values_from}
 use Rattle.text.specs.Answer.{longest}
@@ -12,6 +12,10 @@ use Rattle.renewal.specs.Key.{no_body, body_length, encode, key_by}
 -- the constant table: the body lengths of the kinds 0 to 61
 unfoldable pub bodies : List ℕ
 bodies = values_from body_length 0 62
+
+-- the body length of a kind that stands in the key
+abbrev pub body_at : ℕ → Option ℕ
+body_at kind = cond (eqb (body_length kind) no_body) None (Some (body_length kind))
 
 -- the member of a kind, a suffix start and its bytes
 abbrev pub member : ℕ → ℕ → List ℕ → Member

@@ -1,11 +1,11 @@
 // The records of the key, written into lent bytes.
-ghost use Rattle.std.specs.Prelude.{◌≡◌, [], ◌∷◌, ◌++◌, ◌+◌, ◌*◌, ◌≤◌, min, length, take, drop};
+ghost use Rattle.std.specs.Prelude.{◌≡◌, [], ◌∷◌, ◌++◌, ◌+◌, ◌*◌, ◌≤◌, length, take, drop};
 ghost use Rattle.lists.specs.Steps.{Put, PutIf};
 ghost use Rattle.text.specs.Answer.{longest};
 ghost use Rattle.renewal.specs.Key.{word, texts, encode};
-ghost use Rattle.renewal.specs.Steps.{size_by, member, entry, toks, entries, BodyFits, Writable, Ready, RunReady};
+ghost use Rattle.renewal.specs.Steps.{size_by, member, entry, toks, entries, bodies, BodyFits, Writable, Ready, RunReady};
 
-use crate::table::{NO_BODY, body_length};
+use crate::table::body_length;
 use cutters::RECORD;
 
 fn put_byte(key: &mut [u8], k: usize, b: u8) -> usize
@@ -21,17 +21,12 @@ fn put_word(key: &mut [u8], k: usize, n: u32) -> usize
     requires { k + 4 ≤ length key.old }
     ensures { Put key.old k (word n) key.new result }
 {
-    let n1 = n / 256;
-    let n2 = n1 / 256;
-    let n3 = n2 / 256;
-    key[k] = (n % 256) as u8;
-    key[k + 1] = (n1 % 256) as u8;
-    key[k + 2] = (n2 % 256) as u8;
-    key[k + 3] = (n3 % 256) as u8;
+    key[k..k + 4].copy_from_slice(&n.to_le_bytes());
     k + 4
 }
 
 // Four bytes of a part, from its place i on: all are read before one is written, so that they compile to one load and one store.
+// `copy_from_slice` compiles to a test for overlap and both ways of copying.
 fn put_four(key: &mut [u8], k: usize, part: &[u8], i: usize) -> usize
     requires { (k + 4 ≤ length key.old) × (i + 4 ≤ length part.now) }
     ensures { Put key.old k (take 4 (drop i part.now)) key.new result }
@@ -94,25 +89,15 @@ fn put_bytes(key: &mut [u8], k: usize, part: &[u8]) -> usize
     put_some(key, k + i, part, i, m)
 }
 
-// How many bytes the next text record holds, where so many are left.
-fn next_count(left: usize) -> usize
-    ensures { result ≡ min 16 left }
-{
-    if left < 16 { left } else { 16 }
-}
-
+// A byte for each sixteen bytes or less, and then these.
 fn put_texts(key: &mut [u8], k: usize, text: &[u8]) -> usize
     requires { k + length (texts text.now) ≤ length key.old }
     ensures { Put key.old k (texts text.now) key.new result }
 {
-    let mut i = 0;
     let mut at = k;
-    while i < text.len() {
-        let n = next_count(text.len() - i);
-        let end = i + n;
-        let after = put_byte(key, at, 128 + n as u8);
-        at = put_bytes(key, after, &text[i..end]);
-        i = end;
+    for part in text.chunks(16) {
+        at = put_byte(key, at, 128 + part.len() as u8);
+        at = put_bytes(key, at, part);
     }
     at
 }
@@ -161,15 +146,13 @@ fn put_member(
     kind: u32,
     suffix: u32,
     text: &[u8],
-    table: &[u8],
 ) -> usize
-    requires { Ready table.now write k kind suffix text.now key.old }
+    requires { Ready bodies write k kind suffix text.now key.old }
     ensures { PutIf write key.old k (entry (member kind suffix text.now)) key.new result }
 {
-    let body = body_length(table, kind);
-    if body == NO_BODY {
+    let Some(body) = body_length(kind) else {
         return k;
-    }
+    };
     if write {
         return put_record(key, k, kind, body, suffix, text);
     }
@@ -185,21 +168,18 @@ pub fn put_members(
     from: usize,
     list: &[u32],
     count: usize,
-    table: &[u8],
 ) -> usize
-    requires { RunReady table.now write k text.now from list.now count key.old }
+    requires { RunReady bodies write k text.now from list.now count key.old }
     ensures { PutIf write key.old k (entries (drop from text.now) (toks list.now 0 count)) key.new result }
 {
     let mut at = from;
-    let mut i: usize = 0;
     let mut n = k;
-    while i < count {
+    for i in 0..count {
         let kind = list[RECORD * i];
         let end = at + list[RECORD * i + 1] as usize;
         let suffix = list[RECORD * i + 2];
-        n = put_member(key, write, n, kind, suffix, &text[at..end], table);
+        n = put_member(key, write, n, kind, suffix, &text[at..end]);
         at = end;
-        i = i + 1;
     }
     n
 }

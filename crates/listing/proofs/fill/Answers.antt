@@ -1,13 +1,16 @@
 use native.Mathlib.Omega.{arith}
-use mathlib.Core.Path.{refl, ◌∙◌}
+use mathlib.Core.Path.{refl}
 use mathlib.Core.Logic.{inl, inr}
 use Rattle.lexer.proofs.Places.{end_some, end_within, suffix_after, suffix_within, found_within}
-use Rattle.listing.proofs.Whole.{words_stored, fill_room, fill_on, fill_left}
+use Rattle.listing.proofs.Whole.{fill_room, fill_on, fill_left}
 use Rattle.listing.proofs.fill.Goals as goal
 use Rattle.listing.proofs.fill.Goals.{else-loop-k-test, then-loop-k-test+else-at-text}
 
-pub words-requires : goal.words-requires
-words-requires c = record {
+pub put-requires-clause-room : goal.put-requires-clause-room
+put-requires-clause-room c = fill_room c.loop-k.invariant c.loop-k-test.true
+
+pub put-requires-clause-places : goal.put-requires-clause-places
+put-requires-clause-places c = record {
   before_suffix = omega (arith, suffix_after);
   before_end = omega (arith, end_some);
   start_fits = omega arith;
@@ -18,8 +21,7 @@ words-requires c = record {
 
 pub loop-k-preserved : goal.loop-k-preserved
 loop-k-preserved c =
-    fill_on c.loop-k.invariant c.loop-k-test.true c.if-at-text.true c.advance_token-t.ensures
-    (words_stored c.loop-k.list c.loop-k.k (c.copy_from_slice.ensures.after ∙ c.words.ensures) refl (fill_room c.loop-k.invariant c.loop-k-test.true)) refl
+    fill_on c.loop-k.invariant c.loop-k-test.true c.if-at-text.true c.advance_token-t.ensures c.put.ensures refl
 
 pub returns : goal.returns
 returns c =

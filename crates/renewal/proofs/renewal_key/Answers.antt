@@ -1,13 +1,15 @@
-use Rattle.text.proofs.Checks.{cut_short}
+use Rattle.std.proofs.lemmas.Result.{err_from_is_err_and}
+use Rattle.listing.proofs.Whole.{cut_short}
 use Rattle.renewal.proofs.Whole.{keyed_refused, keyed_done}
-use borrow.Author.Rules.{rules}
 use Rattle.renewal.proofs.renewal_key.Goals as goal
 
-pub returns-then-checked-ne-DONE : goal.returns-then-checked-ne-DONE
-returns-then-checked-ne-DONE c = search (rules, keyed_refused)
+pub returns-in_err-check_cut : goal.returns-in_err-check_cut
+returns-in_err-check_cut c =
+    let p = err_from_is_err_and c.from_residual.result c.from_residual.ensures.1 in
+    rw (p.1, p.2) (keyed_refused _ _ _ _ c.in_err-check_cut.ensures)
 
-pub lend-requires : goal.lend-requires
-lend-requires c = search (rules, cut_short)
+pub store-requires : goal.store-requires
+store-requires c = cut_short _ _ c.in_ok-check_cut.ensures
 
 pub returns : goal.returns
-returns c = search (rules, keyed_done)
+returns c = keyed_done _ _ c.in_ok-check_cut.ensures c.unicode.ensures c.store.ensures

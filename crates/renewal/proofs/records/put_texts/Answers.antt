@@ -1,18 +1,27 @@
-use Rattle.renewal.proofs.Writing.{texting_none, texting_more, texting_end, texting_byte, texting_some, texting_most, texting_part}
-use borrow.Author.Rules.{rules}
+use native.Mathlib.Omega.{arith}
+use mathlib.Core.Path.{◌∙◌}
+use Rattle.renewal.proofs.Writing.{texting_byte, texting_part, texting_more, texting_end}
 use Rattle.renewal.proofs.records.put_texts.Goals as goal
 
-pub loop-i-init : goal.loop-i-init
-loop-i-init c = search (rules, texting_none)
-
-pub put_byte-after-requires : goal.put_byte-after-requires
-put_byte-after-requires c = search (rules, texting_byte)
+pub put_byte-at-requires : goal.put_byte-at-requires
+put_byte-at-requires c =
+    let s = c.in-Some.ensures.steps.1 in texting_byte _ _ _ _ c.loop-part.invariant.storing s.0 c.loop-part.invariant.size s.1 s.2 c.requires
 
 pub put_bytes-at-requires : goal.put_bytes-at-requires
-put_bytes-at-requires c = (search (rules, texting_some), search (rules, texting_most), search (rules, texting_part))
+put_bytes-at-requires c =
+    let s = c.in-Some.ensures.steps.1 in
+    texting_part _ _ _ _ c.loop-part.invariant.storing s.0 c.loop-part.invariant.size s.1 s.2 c.requires c.put_byte-at.ensures
 
-pub loop-i-preserved : goal.loop-i-preserved
-loop-i-preserved c = search (rules, texting_more)
+pub loop-part-preserved : goal.loop-part-preserved
+loop-part-preserved c =
+    let s = c.in-Some.ensures.steps.1 in
+    let z = c.in-Some.ensures.steps.0 ∙ c.loop-part.invariant.size in
+    record {
+      next = omega (arith, z);
+      finite = tt;
+      size = z;
+      storing = texting_more _ _ _ _ c.loop-part.invariant.storing s.0 c.loop-part.invariant.size s.1 s.2 c.put_byte-at.ensures c.put_bytes-at.ensures;
+    }
 
 pub returns : goal.returns
-returns c = search (rules, texting_end)
+returns c = texting_end _ _ c.loop-part.invariant.storing c.in-None.ensures.steps.1.0

@@ -1,19 +1,22 @@
-use mathlib.Core.Bool.{false≢true}
-use Rattle.renewal.proofs.Whole.{room_enough, stored_all, stored_none, stored_twice}
-use borrow.Author.Rules.{rules}
+use native.Mathlib.Omega.{arith}
+use mathlib.Core.Path.{◌∙◌}
+use Rattle.lexer.specs.Unicode.{letters_in}
+use Rattle.renewal.proofs.Whole.{room_enough, sized_fits, stored_all}
 use Rattle.renewal.proofs.walk.store.Goals as goal
+use Rattle.renewal.proofs.walk.store.Goals.{then-key-text+else-key-need, else-key-text}
 
-pub walk-n-requires : goal.walk-n-requires
-walk-n-requires c = (search rules, search rules, λ t. search (rules, room_enough))
-
-pub returns-then-text-key : goal.returns-then-text-key
-returns-then-text-key c = search (rules, stored_all)
-
-pub walk-n-requires-2 : goal.walk-n-requires-2
-walk-n-requires-2 c = (search rules, search rules, λ t. absurd (false≢true t))
-
-pub returns-then-key-n : goal.returns-then-key-n
-returns-then-key-n c = search (rules, stored_none)
+pub walk-requires-clause-room : goal.walk-requires-clause-room
+walk-requires-clause-room c t =
+    elim c.if-key-text.branch [
+      | then-key-text+else-key-need w ↦ omega (arith, c.if-key-text.auto.key, (sized_fits _ w.walk-need.ensures (omega arith)).1)
+      | else-key-text w ↦ omega (arith, c.if-key-text.auto.key, room_enough (letters_in c.args.letters) c.args.profile c.args.text.now c.args.key.now (omega arith))
+    ]
 
 pub returns : goal.returns
-returns c = search (rules, stored_twice)
+returns c =
+    elim c.if-key-text.branch [
+      | then-key-text+else-key-need w ↦
+          let p = sized_fits _ w.walk-need.ensures (omega arith) in stored_all _ (w.key-is ∙ p.0) p.1 c.walk.ensures
+      | else-key-text w ↦
+          stored_all _ w.key-is (room_enough (letters_in c.args.letters) c.args.profile c.args.text.now c.args.key.now (omega arith)) c.walk.ensures
+    ]
