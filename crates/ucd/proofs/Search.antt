@@ -1,15 +1,15 @@
 -- The binary search: each step of it, for every list; and on a list that rises, that it is membership, for every table at once.
 -- Assumes nothing.
-use mathlib.Core.Path.{◌≡◌, refl, ap, sym, ◌∙◌}
-use mathlib.Core.Bool.{Bool, true, false, cond, ◌&&◌, ◌||◌}
+use mathlib.Core.Path.{◌≡◌, refl, sym, ◌∙◌}
+use mathlib.Core.Bool.{Bool, true, false, ◌&&◌, ◌||◌}
 use mathlib.Core.List.{List, [], ◌∷◌}
 use Prim.Native.Nat.{ℕ, zero, suc, ◌+◌, ◌-◌, ◌*◌, ◌/◌, ◌≤◌, ◌<◌}
 use native.Mathlib.Decide.{dec_lt, ℕ_discrete}
 use native.Mathlib.Omega.{arith}
 use lib.Dec.{leb, ltb}
 use lib.ListN.{length, get_or}
-use borrow.Author.Tests.{lt-ltb, le-ltb, le-leb, lt-leb, leb-true, leb-false, ltb-true, eq-eqb, ne_eqb}
-use Rattle.lists.proofs.Bools.{by_test, on_cond, and_false, or_true}
+use borrow.Author.Tests.{le-leb, lt-leb, leb-true, leb-false, ltb-true, eq-eqb, ne_eqb}
+use Rattle.lists.proofs.Bools.{by_test, on_cond, or_true}
 use Rattle.characters.specs.Ranges.{Range, ◌to◌, in_range, in_table, flat}
 use Rattle.ucd.specs.Search.{later, narrowed, among, found, searched}
 use Rattle.ucd.specs.Order.{Sorted}
@@ -88,17 +88,6 @@ module _ {t : List ℕ} {c base₀ size₀ base size : ℕ} (s : Searching t c b
 
 pub half_most : (k : ℕ) {n m : ℕ} → n ≤ 2 * k → m ≡ n - n / 2 → m ≤ k
 half_most k h e = omega arith
-
--- how many ranges it begins with
-module _ (t : List ℕ) (c : ℕ) {n : ℕ} (e : n ≡ length t / 2) where
-  pub among_few : n ≤ 32 → n ≡ among t c
-  among_few h = e ∙ rw (le-ltb 32 (length t / 2) (omega arith))
-
-  pub among_first : 32 < n → c < get_or t 64 0 → 32 ≡ among t c
-  among_first h k = rw (lt-ltb 32 (length t / 2) (omega arith), lt-ltb c (get_or t 64 0) k)
-
-  pub among_all : 32 < n → get_or t 64 0 ≤ c → n ≡ among t c
-  among_all h k = e ∙ rw (le-ltb c (get_or t 64 0) k) (sym (ap (λ (b : Bool). cond b 32 (length t / 2)) (and_false (ltb 32 (length t / 2)))))
 
 among_most : (t : List ℕ) (c : ℕ) → 2 * among t c ≤ length t
 among_most t c =

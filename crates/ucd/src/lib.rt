@@ -28,7 +28,7 @@ pub trait Property {
     fn table() -> &'static [u32]
         ensures { result.now ≡ flat all };
 
-    // So the search among all of them, after the test of ASCII, finds what has it.
+    // The table rises, and begins with its ASCII: so a search in it, once ASCII is decided, finds what has the property.
     ghost ascii_first: { AsciiFirst ascii all };
 }
 
