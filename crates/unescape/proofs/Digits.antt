@@ -4,16 +4,16 @@ use Prim.Native.Nat.{ℕ, suc, ◌+◌, ◌-◌, ◌*◌, ◌^◌, ◌≤◌, �
 use native.Mathlib.Omega.{arith}
 use native.Mathlib.Nat.{pow-suc, pow-le-pow_right}
 use mathlib.Core.Path.{◌≡◌, refl}
-use mathlib.Core.Bool.{true, false, cond}
-use lib.Dec.{ltb}
-use borrow.Author.Tests.{lt-leb, lt-ltb, ltb-true, ltb-false, ne_eqb}
+use mathlib.Core.Bool.{true, false, false≢true}
+use lib.Dec.{eqb, ltb}
+use borrow.Author.Tests.{lt-leb, lt-ltb, le-ltb, ltb-true, ltb-false, ne_eqb}
 use Rattle.std.specs.Prelude.{Option}
 use Rattle.std.specs.Bool.{then_some}
 use Rattle.unescape.specs.Steps.{is_digit}
 use Rattle.lists.proofs.Bools.{by_test, and_false}
 use Rattle.characters.specs.Ranges.{◌to◌, in_range}
 use Rattle.characters.proofs.Rows.{in_range_lem}
-use Rattle.unescape.specs.Escapes.{to_digit, or_underscore, add_digit}
+use Rattle.unescape.specs.Escapes.{to_digit, or_underscore, count_digit, valued, add_digit}
 
 -- ---- the value of a digit, by its range
 -- what lies beyond the high end of a range does not lie in it
@@ -87,32 +87,27 @@ small_digit n v d s h k =
     let p = pow-suc 16 n in
     record { below = rw (f, p) (omega arith) }
 
--- ---- what a byte behind the first digit does
--- an underscore
-module _ {c : ℕ} (h : c ≡ 0x5F) where
-  pub underscore_eaten : or_underscore c ≡ true
-  underscore_eaten = rw h
+-- ---- what a character behind the first digit does
+-- no underscore is a digit, and what is neither is not eaten
+pub not_underscore : (c : ℕ) {d : ℕ} → d ≡ to_digit c → d < 16 → eqb c 0x5F ≡ false
+unfolding to_digit
+not_underscore c e l = ne_eqb c 0x5F (λ h. omega (arith, rw h at e))
 
-  pub underscore_adds : (n v : ℕ) → (n, v) ≡ add_digit (n, v) c
-  underscore_adds n v = rw h
+pub underscore : (c : ℕ) → 16 ≡ to_digit c → or_underscore c ≡ true → eqb c 0x5F ≡ true
+underscore c e h = by_test (eqb c 0x5F) (λ k. k) (λ k. absurd (false≢true (rw (k, ← e) at h)))
 
--- a digit
-module _ {c : ℕ} (h : c ≡ 0x5F → ⊥) {d : ℕ} (e : d ≡ to_digit c) (l : d < 16) where
-  pub digit_eaten : or_underscore c ≡ true
-  digit_eaten = rw (ne_eqb c 0x5F h, lt-ltb (to_digit c) 16 (omega (arith, e)))
-
-  pub digit_adds : (n v : ℕ) → (n + 1, cond (ltb n 6) (v * 16 + d) v) ≡ add_digit (n, v) c
-  digit_adds n v = rw (ne_eqb c 0x5F h, ← e)
-
-pub small_more : {n v d : ℕ} → Small n v → d < 16 → Small (n + 1) (cond (ltb n 6) (v * 16 + d) v)
-small_more {n} {v} {d} s l =
-    by_test (ltb n 6) (λ k. rw k (small_digit n v d s (ltb-true n 6 k) l))
+pub small_on : (c : ℕ) {n v : ℕ} → Small n v → or_underscore c ≡ true → Small (count_digit n c) (valued n v c)
+small_on c {n} {v} s g =
+    by_test (eqb c 0x5F) (λ h. rw h s)
+    (λ h.
+    by_test (ltb n 6)
+    (λ k. rw (h, k) (small_digit n v (to_digit c) s (ltb-true n 6 k) (ltb-true (to_digit c) 16 (rw h at g))))
     (λ k.
-    let m = ltb-false n 6 k in
+    let l = ltb-false n 6 k in
     let i : min n 6 ≡ 6 = omega arith in
     let j : min (n + 1) 6 ≡ 6 = omega arith in
-    rw k (record { below = rw j (rw i at s.below) }))
+    rw (h, k) (record { below = rw j (rw i at s.below) })))
 
--- what is neither
-pub digit_halts : {c : ℕ} → (c ≡ 0x5F → ⊥) → 16 ≡ to_digit c → or_underscore c ≡ false
-digit_halts {c} h e = rw (ne_eqb c 0x5F h, ← e)
+-- no more digits than bytes
+pub count_few : (c at : ℕ) {n : ℕ} → n ≤ at + 1 → count_digit n c ≤ at + 1 + 1
+count_few c at h = by_test (eqb c 0x5F) (λ k. rw k (omega arith)) (λ k. rw k (omega arith))

@@ -14,6 +14,7 @@ pub struct Chars<'t> {
 
 impl Chars<'_> {
     // The next character, if there is one.
+    #[inline(always)]
     pub fn next(&mut self) -> Option<u32>
         ensures { Next self.old.text.now self.old.at result self.new.text.now self.new.at }
     {

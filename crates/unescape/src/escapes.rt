@@ -1,6 +1,6 @@
 // Escapes: what stands behind a backslash.
-ghost use Rattle.std.specs.Prelude.{◌≡◌, cond, ltb, ◌+◌, ◌*◌, ◌<◌, IfOk};
-ghost use Rattle.unescape.specs.Escapes.{to_digit, hex_digit, hex_escape, first_digit, or_underscore, add_digit, code_point, closing, braced, unicode_escape, simple, escape, ascii_check};
+ghost use Rattle.std.specs.Prelude.{◌≡◌, true, ◌<◌, IfOk};
+ghost use Rattle.unescape.specs.Escapes.{to_digit, hex_digit, hex_escape, first_digit, or_underscore, count_digit, valued, add_digit, code_point, closing, braced, unicode_escape, simple, escape, ascii_check};
 ghost use Rattle.unescape.specs.Steps.{outcome_of, ascii_only, is_digit, Scanned, AteOn};
 
 use crate::chars::Chars;
@@ -48,6 +48,7 @@ pub fn simple(c: u32) -> Result<u32, EscapeError>
     }
 }
 
+#[inline(always)]
 fn hex_digit(chars: &mut Chars<'_>) -> Result<u32, EscapeError>
     ensures { (Scanned hex_digit chars.old.text.now chars.old.at result chars.new.text.now chars.new.at) × IfOk result (λ v. v < 16) }
 {
@@ -56,6 +57,7 @@ fn hex_digit(chars: &mut Chars<'_>) -> Result<u32, EscapeError>
 }
 
 // Behind `\x`: two digits.
+#[inline(always)]
 pub fn scan_hex(chars: &mut Chars<'_>) -> Result<u32, EscapeError>
     ensures { Scanned hex_escape chars.old.text.now chars.old.at result chars.new.text.now chars.new.at }
 {
@@ -87,20 +89,27 @@ fn first_digit(chars: &mut Chars<'_>) -> Result<u32, EscapeError>
 }
 
 impl Digits {
-    // One digit more. From the seventh on the value is no longer asked for, and so it stays below 2^24.
-    fn and(self, digit: u32) -> Digits
-        requires { (self.count < 18446744073709551615) × (digit < 16) × (self.count < 6 → self.value < 1048576) }
-        ensures { result ≡ record { count = self.count + 1; value = cond (ltb self.count 6) (self.value * 16 + digit) self.value } }
+    // With one character more, a digit or an underscore. From the seventh digit on the value is no longer asked for, and so it stays below 2^24.
+    fn and(self, c: u32, digit: Option<u32>) -> Digits
+        requires { (is_digit c digit) × (or_underscore c ≡ true) × (self.count < 18446744073709551615) × (self.count < 6 → self.value < 1048576) }
+        ensures { result ≡ record { count = count_digit self.count c; value = valued self.count self.value c } }
     {
         Digits {
-            count: self.count + 1,
-            value: if self.count < 6 {
-                self.value * 16 + digit
-            } else {
-                self.value
+            count: self.count + usize::from(c != 0x5F),
+            value: match digit {
+                Some(digit) if self.count < 6 => self.value * 16 + digit,
+                _ => self.value,
             },
         }
     }
+}
+
+// By the character and what it is worth.
+fn is_digit_or_underscore(c: u32, digit: Option<u32>) -> bool
+    requires { is_digit c digit }
+    ensures { result ≡ or_underscore c }
+{
+    c == 0x5F || digit.is_some()
 }
 
 // Behind a first digit, byte by byte: only ASCII is a digit. No text has so many that the count wraps.
@@ -114,14 +123,12 @@ fn more_digits(chars: &mut Chars<'_>, first: u32) -> Digits
     };
     for (i, b) in chars.text[chars.at..].iter().enumerate() {
         let c = *b as u32;
-        if c == 0x5F {
-            continue;
-        }
-        let Some(digit) = to_digit(c) else {
+        let digit = to_digit(c);
+        if !is_digit_or_underscore(c, digit) {
             chars.at += i;
             return digits;
-        };
-        digits = digits.and(digit);
+        }
+        digits = digits.and(c, digit);
     }
     chars.at = chars.text.len();
     digits
@@ -169,6 +176,7 @@ fn scan_braced(chars: &mut Chars<'_>, mode: Mode) -> Result<u32, EscapeError>
 }
 
 // Behind `\u`.
+#[inline(always)]
 pub fn scan_unicode(chars: &mut Chars<'_>, mode: Mode) -> Result<u32, EscapeError>
     ensures { Scanned (unicode_escape (ascii_only mode)) chars.old.text.now chars.old.at result chars.new.text.now chars.new.at }
 {
