@@ -6,6 +6,7 @@ use mathlib.Core.Bool.{Bool, true, false, not, cond, ◌||◌}
 use mathlib.Core.List.{List, [], ◌∷◌, ◌++◌}
 use native.Mathlib.Omega.{arith}
 use lib.Dec.{eqb, ltb}
+use Rattle.std.specs.Prelude.{Result, Ok, Err}
 use lib.ListN.{length, take, drop, length-append, length-take, length-drop}
 use borrow.Author.Tests.{eqb-true, eq-eqb, ne_eqb, lt-ltb, le-ltb, ltb-false, not-false}
 use Rattle.lists.specs.Over.{over}
@@ -31,7 +32,12 @@ use Rattle.feeding.proofs.Carry.{places_long, up_more, up_stop, kept_long}
 use Rattle.phases.specs.Codec.{flag_number}
 use Rattle.parts.specs.Coded.{state_of, packed_pend, meaning, packed, ended_lexer, no_machine, packed_machine}
 use Rattle.parts.specs.Promises.{next_of, Called}
-use Rattle.parts.specs.Steps.{one_of, passed, PassReady, Gone, behind_as, check_of, Checked, CallReady, AcceptReady, Accepted, Refused, Shortage, Delivered, kept_bytes, Kept, end_in}
+use Rattle.parts.specs.Refusals.{feed_refused}
+use Rattle.parts.specs.Steps.{first_of, passed, PassReady, Gone, behind_as, check_of, Checked, CallReady, AcceptReady, Accepted, Refused, Delivered, Attempted, kept_bytes, Kept, end_in}
+use Rattle.text.specs.declared.Refusal.{Refusal}
+use Rattle.text.specs.declared.Refusal.TheVariants.{UnknownSelector, TooLong, NotUtf8, RoomTooSmall, DirectionMark}
+use Rattle.parts.specs.declared.refusals.FeedRefusal.{FeedRefusal}
+use Rattle.parts.specs.declared.refusals.FeedRefusal.TheVariants.{NotOpen, Text}
 use Rattle.parts.specs.declared.check.Scan.{Scan}
 use Rattle.parts.specs.declared.passes.Went.{Went}
 use Rattle.parts.specs.declared.Lexer as D
@@ -67,10 +73,10 @@ module _ (x : Lexer) (last : Bool) (chunk : List ℕ) where
       ∙ ap (λ (y : ℕ × ℕ). opened and_then y) (then_assoc known (fitting and_then fault) z
       ∙ ap (λ (y : ℕ × ℕ). known and_then y) (then_assoc fitting fault z)))
 
-  pub check_ready : (c : Scan) → Checked x last chunk c → c.number ≡ done → CallReady x last chunk c
+  pub check_ready : (c : Scan) → Checked x last chunk (Ok c) → CallReady x last chunk c
   unfolding check_of
-  check_ready c k e =
-      let a = then_done opened (known and_then (fitting and_then fault)) (sym k.answered.number_is ∙ e) in
+  check_ready c k =
+      let a = then_done opened (known and_then (fitting and_then fault)) (ap (λ (z : ℕ × ℕ). z.0) k.0) in
       let b = then_done known (fitting and_then fault) a.1 in
       let d = then_done fitting fault b.1 in
       let r = neither x.over (not (running x)) (cond_not (x.over || not (running x)) (not_open, 0) (done, 0) (λ z. omega (arith, z)) a.0) in
@@ -80,7 +86,7 @@ module _ (x : Lexer) (last : Bool) (chunk : List ℕ) where
         runs = not-false (running x) r.1;
         short = s;
         whole = λ l. eqb-true (length (beyond (x.pend ++ chunk))) 0 (rw l at f.1);
-        good = k.good e;
+        good = k.1;
       }
 
 -- ---- what the passes come to
@@ -92,7 +98,7 @@ module _ {x : Lexer} {last : Bool} {chunk : List ℕ} {c : Scan} (k : CallReady 
   part = take (c.until - c.from) (drop c.from chunk)
 
   abbrev fed : List ℕ
-  fed = one_of c.head c.code ++ chars part
+  fed = first_of c.head ++ chars part
 
   runs : Runs x
   runs = from_running x k.runs
@@ -104,8 +110,8 @@ module _ {x : Lexer} {last : Bool} {chunk : List ℕ} {c : Scan} (k : CallReady 
   part_long = omega (arith, length-take (c.until - c.from) (drop c.from chunk), length-drop c.from chunk, k.good.high, k.good.low)
 
   -- all bytes up to the unfinished character
-  sum : byte_length (one_of c.head c.code) + length part ≡ length (whole b)
-  sum = omega (arith, bytes_append (one_of c.head c.code) (chars part), bytes_chars part, ap byte_length are, bytes_chars (whole b))
+  sum : byte_length (first_of c.head) + length part ≡ length (whole b)
+  sum = omega (arith, bytes_append (first_of c.head) (chars part), bytes_chars part, ap byte_length are, bytes_chars (whole b))
 
   beside : length (whole b) + length (beyond b) ≡ length x.pend + length chunk
   beside = omega (arith, whole_long b, length-drop (valid_up_to b) b, valid_within b, length-append x.pend chunk)
@@ -131,7 +137,7 @@ module _ {x : Lexer} {last : Bool} {chunk : List ℕ} {c : Scan} (k : CallReady 
       by false e = rw e (omega (arith, few_fed x chunk, chars_few, beside, runs_short runs))
 
   -- what a pass asks, where the records that are stored have room
-  pub pass_ready : {u : Letters} {s : State} {write : Bool} {list : List ℕ} → u ≡ unicode → s ≡ x.state → (write ≡ true → length (given x last chunk) ≤ length list / record_words) → PassReady u x.profile x.begun s c.head c.code part last write list
+  pub pass_ready : {u : Letters} {s : State} {write : Bool} {list : List ℕ} → u ≡ unicode → s ≡ x.state → (write ≡ true → length (given x last chunk) ≤ length list / record_words) → PassReady u x.profile x.begun s c.head part last write list
   pass_ready i e room =
       rw (i, e)
       (record {
@@ -140,45 +146,34 @@ module _ {x : Lexer} {last : Bool} {chunk : List ℕ} {c : Scan} (k : CallReady 
         room = λ w. omega (arith, ap (λ (z : List Rec × (State × ℕ)). length (words z.0)) pass_is, words_long (given x last chunk), room w);
       })
 
-  passed_many : {u : Letters} {s : State} {write : Bool} {list list' : List ℕ} {w : Went} → u ≡ unicode → s ≡ x.state → Gone (passed u x.profile x.begun s fed last) write list 0 w list' → w.words ≡ record_words * length (given x last chunk)
-  passed_many {u} {s} {write} {list} {list'} {w} i e g =
-      let h : Gone (given x last chunk, (cond last idle (fed_to x last chunk).1.0, next_begun x last chunk)) write list 0 w list' = rw (i, e, pass_is) at g in
-      omega (arith, h.stored.next, words_long (given x last chunk))
-
-  -- ---- the room
-  pub short_none : {room : ℕ} → length chunk + 5 ≤ room → Shortage room (length (given x last chunk)) 0
-  short_none h = record { enough = λ e. omega (arith, few); short = λ n. absurd (n refl); many = λ n. absurd (n refl) }
-
-  module _ {u : Letters} {s : State} {list list' : List ℕ} {w : Went} (i : u ≡ unicode) (e : s ≡ x.state) (g : Gone (passed u x.profile x.begun s fed last) false list 0 w list') where
-    need_is : w.words / record_words ≡ length (given x last chunk)
-    need_is = omega (arith, passed_many i e g)
-
-    pub short_more : {room : ℕ} → room < w.words / record_words → Shortage room (length (given x last chunk)) (w.words / record_words)
-    short_more h = record { enough = λ z. absurd (omega (arith, need_is)); short = λ n. omega (arith, need_is); many = λ n. need_is }
-
-    pub short_fits : {room : ℕ} → w.words / record_words ≤ room → Shortage room (length (given x last chunk)) 0
-    short_fits h = record { enough = λ z. omega (arith, need_is); short = λ n. absurd (n refl); many = λ n. absurd (n refl) }
-
-  -- ---- behind the pass that stores
-  pub stores : {u : Letters} {s : State} {list list' : List ℕ} {w : Went} → u ≡ unicode → s ≡ x.state → length (given x last chunk) ≤ length list / record_words → Gone (passed u x.profile x.begun s fed last) true list 0 w list' → list' ≡ over (words (given x last chunk)) list
-  stores {u} {s} {list} {list'} {w} i e room g =
-      let h : Gone (given x last chunk, (cond last idle (fed_to x last chunk).1.0, next_begun x last chunk)) true list 0 w list' = rw (i, e, pass_is) at g in
-      stored_front (words (given x last chunk)) list h.stored.same (omega (arith, words_long (given x last chunk), room))
-
   pub gone_is : {u : Letters} {s : State} {write : Bool} {list list' : List ℕ} {w : Went} → u ≡ unicode → s ≡ x.state → Gone (passed u x.profile x.begun s fed last) write list 0 w list' → Gone (given x last chunk, (cond last idle (fed_to x last chunk).1.0, next_begun x last chunk)) write list 0 w list'
   gone_is i e g = rw (i, e, pass_is) at g
 
-pub accept_ready : {x : D.Lexer} {last : Bool} {chunk : List ℕ} {c : Scan} (k : CallReady (meaning x) last chunk c) {u : Letters} {s : State} {list list' : List ℕ} {w : Went} → u ≡ unicode → s ≡ (meaning x).state → length (given (meaning x) last chunk) ≤ length list / record_words → Gone (passed u x.profile x.begun s (one_of c.head c.code ++ chars (take (c.until - c.from) (drop c.from chunk))) last) true list 0 w list' → AcceptReady x last chunk c w list'
-accept_ready {x} {last} {chunk} {c} k {u} {s} {list} i e room g =
+  -- ---- the room
+  pub room_enough : {room : ℕ} → length chunk + 5 ≤ room → length (given x last chunk) ≤ room
+  room_enough h = omega (arith, few)
+
+  pub need_is : {write : Bool} {list list' : List ℕ} {w : Went} {s : State × ℕ} → Gone (given x last chunk, s) write list 0 w list' → w.words / record_words ≡ length (given x last chunk)
+  need_is g = omega (arith, g.stored.next, words_long (given x last chunk))
+
+-- behind the pass that stores
+pub stores : (x : Lexer) (last : Bool) (chunk : List ℕ) {list list' : List ℕ} {w : Went} {s : State × ℕ} → length (given x last chunk) ≤ length list / record_words → Gone (given x last chunk, s) true list 0 w list' → list' ≡ over (words (given x last chunk)) list
+stores x last chunk {list} room h =
+    stored_front (words (given x last chunk)) list h.stored.same (omega (arith, words_long (given x last chunk), room))
+
+pub accept_ready : {x : D.Lexer} {last : Bool} {chunk : List ℕ} {c : Scan} (k : CallReady (meaning x) last chunk c) {list list' : List ℕ} {w : Went} → length (given (meaning x) last chunk) ≤ length list / record_words → Gone (given (meaning x) last chunk, (cond last idle (fed_to (meaning x) last chunk).1.0, next_begun (meaning x) last chunk)) true list 0 w list' → AcceptReady x last chunk c.pend w list'
+accept_ready {x} {last} {chunk} {c} k {list} room h =
     let y = meaning x in
-    let h = gone_is k i e g in
     record {
-      ready = k;
+      runs = k.runs;
+      short = k.short;
+      whole = k.whole;
+      beyond_is = k.good.rest;
       state_is = ap (λ (z : State × ℕ). z.0) h.behind;
       begun_is = ap (λ (z : State × ℕ). z.1) h.behind;
       many = omega (arith, h.stored.next);
       rest = drop (length (words (given y last chunk))) list;
-      front = stores k i e room g;
+      front = stores y last chunk room h;
     }
 
 -- ---- the carry and the next value
@@ -198,15 +193,15 @@ module _ (x : Lexer) (last : Bool) (chunk carry : List ℕ) where
       let b = places (next_begun x last chunk) (fed_all x last chunk - next_begun x last chunk) in
       omega (arith, length-take (length carry) (up_to x last chunk carry (a ++ b)), up_few (a ++ b), length-append a b, places_long (early x last chunk - x.begun) x.begun, places_long (fed_all x last chunk - next_begun x last chunk) (next_begun x last chunk))
 
-module _ {x : D.Lexer} {last : Bool} {chunk : List ℕ} {c : Scan} {w : Went} {list : List ℕ} (k : AcceptReady x last chunk c w list) where
+module _ {x : D.Lexer} {last : Bool} {chunk : List ℕ} {pend : Pend} {w : Went} {list : List ℕ} (k : AcceptReady x last chunk pend w list) where
   abbrev y : Lexer
   y = meaning x
 
   goes : Runs y
-  goes = from_running y k.ready.runs
+  goes = from_running y k.runs
 
   soon : Early x.fed x.begun (next_begun y last chunk) (early y last chunk)
-  soon = given_early y goes last chunk k.ready.whole
+  soon = given_early y goes last chunk k.whole
 
   pub many_is : w.words / record_words ≡ length (given y last chunk)
   many_is = omega (arith, k.many, words_long (given y last chunk))
@@ -222,14 +217,14 @@ module _ {x : D.Lexer} {last : Bool} {chunk : List ℕ} {c : Scan} {w : Went} {l
     early_after = omega (arith, early_is, soon.after)
 
     pub early_small : v - x.begun ≤ longest
-    early_small = omega (arith, early_is, soon.within, next_within y goes last chunk, k.ready.short)
+    early_small = omega (arith, early_is, soon.within, next_within y goes last chunk, k.short)
 
     pub front_within : {a : ℕ} → a ≡ v - x.fed → a ≤ length chunk
     front_within i = omega (arith, i, early_is, soon.within, next_within y goes last chunk)
 
-    module _ {a b : ℕ} (i : a ≡ v - x.fed) (j : b ≡ w.begun - x.fed) {carry : List ℕ} {n : ℕ} {carry' : List ℕ} (q : Kept (kept_bytes carry chunk (x.fed - x.begun) x.last.packed x.last.kept a b) carry n carry') where
+    module _ {a b : ℕ} (i : a ≡ v - x.fed) (j : b ≡ w.point.begun - x.fed) {carry : List ℕ} {n : ℕ} {carry' : List ℕ} (q : Kept (kept_bytes carry chunk (x.fed - x.begun) x.last.packed x.last.kept a b) carry n carry') where
       same_bytes : kept_bytes carry chunk (x.fed - x.begun) x.last.packed x.last.kept a b ≡ keeps y last chunk carry
-      same_bytes = rw (i, j, early_is, k.begun_is) (keeps_is y last chunk carry goes k.ready.whole)
+      same_bytes = rw (i, j, early_is, k.begun_is) (keeps_is y last chunk carry goes k.whole)
 
       kept_is : n ≡ length (keeps y last chunk carry)
       kept_is = q.many ∙ ap length same_bytes
@@ -240,19 +235,19 @@ module _ {x : D.Lexer} {last : Bool} {chunk : List ℕ} {c : Scan} {w : Went} {l
           ap length e ∙ omega (arith, length-append (keeps y last chunk carry) (drop (length (keeps y last chunk carry)) carry), length-drop (length (keeps y last chunk carry)) carry, kept_long y last chunk carry)
 
       pub kept_small : n ≤ longest
-      kept_small = omega (arith, kept_is, kept_few y last chunk carry, soon.after, soon.within, next_within y goes last chunk, k.ready.short)
+      kept_small = omega (arith, kept_is, kept_few y last chunk carry, soon.after, soon.within, next_within y goes last chunk, k.short)
 
-      pub accepted_is : (r : Fed) → r.answer.number ≡ done → r.answer.also ≡ w.words / record_words → r.lexer ≡ behind_as x last (state_of w.state) w.begun c.pend (record { from = x.begun; until = w.begun; place = x.fed; chunk = length chunk; carry = length carry'; packed = v - x.begun; kept = n }) → Accepted y last chunk carry r carry'
+      pub accepted_is : (r : Fed) → r.answer.number ≡ done → r.answer.also ≡ w.words / record_words → r.lexer ≡ behind_as x last (state_of w.point.state) w.point.begun pend (record { from = x.begun; until = w.point.begun; place = x.fed; chunk = length chunk; carry = length carry'; packed = v - x.begun; kept = n }) → Accepted y last chunk carry r carry'
       accepted_is r a b l =
           record {
             number_is = a;
             also_is = b ∙ many_is;
-            lexer = l ∙ rw (as_long, k.state_is, k.begun_is, early_is, kept_is, k.ready.good.rest) (by last refl);
+            lexer = l ∙ rw (as_long, k.state_is, k.begun_is, early_is, kept_is, k.beyond_is) (by last refl);
             kept = rw same_bytes at q.same;
           }
         where
           by : (b : Bool) → last ≡ b → behind_as x last (cond last idle (fed_to y last chunk).1.0) (next_begun y last chunk) (packed_pend (beyond (y.pend ++ chunk))) (record { from = x.begun; until = next_begun y last chunk; place = x.fed; chunk = length chunk; carry = length carry; packed = early y last chunk - x.begun; kept = length (keeps y last chunk carry) }) ≡ packed (accepted y last chunk carry)
-          by true e = rw (none (beyond (y.pend ++ chunk)) (k.ready.whole e), e)
+          by true e = rw (none (beyond (y.pend ++ chunk)) (k.whole e), e)
             where
               none : (l : List ℕ) → length l ≡ 0 → l ≡ []
               none [] h = refl
@@ -260,33 +255,15 @@ module _ {x : D.Lexer} {last : Bool} {chunk : List ℕ} {c : Scan} {w : Went} {l
           by false e = rw e
 
   pub fed_fits : x.fed + length chunk ≤ longest
-  fed_fits = k.ready.short
+  fed_fits = k.short
 
   pub chunk_small : length chunk ≤ longest
-  chunk_small = omega (arith, k.ready.short)
+  chunk_small = omega (arith, k.short)
 
   pub begun_within : x.begun ≤ x.fed
   begun_within = omega (arith, goes.all)
 
--- ---- values of integers, of the parts that calls have made
-pub behind_is : (x : D.Lexer) (last : Bool) (s : State) (begun : ℕ) (pend : Pend) (call : Last) {m : Machine} {o : ℕ} → m ≡ packed_machine s → o ≡ flag_number last → ◌≡◌ {A = D.Lexer} (record { profile = x.profile; over = o; machine = m; begun = begun; pend = pend; fed = x.fed + call.chunk; last = call }) (behind_as x last s begun pend call)
-behind_is x last s begun pend call e f = rw (e, f)
-
-pub start_is : (profile : ℕ) {m : Machine} {p : Pend} → m ≡ no_machine → p ≡ packed_pend [] → ◌≡◌ {A = D.Lexer} (record { profile = profile; over = 0; machine = m; begun = 0; pend = p; fed = 0; last = record { from = 0; until = 0; place = 0; chunk = 0; carry = 0; packed = 0; kept = 0 } }) (packed (started profile))
-start_is profile e f = rw (e, f)
-
-pub ruleset accepting = (end_asks, begun_within)
-
 -- ---- what is handed back
-module _ (x : D.Lexer) (n also : ℕ) (r : Fed) {t : Bool} (a : r.answer.number ≡ n) (b : r.answer.also ≡ also) (e : t ≡ (eqb n too_long || (eqb n not_utf8 || eqb n direction_mark))) where
-  pub refused_ends : t ≡ true → r.lexer ≡ ended_lexer x → Refused x n also r
-  refused_ends h l = record { number_is = a; also_is = b; lexer = rw (sym e ∙ h) l }
-
-  pub refused_stays : t ≡ false → r.lexer ≡ x → Refused x n also r
-  refused_stays h l = record { number_is = a; also_is = b; lexer = rw (sym e ∙ h) l }
-
-pub ruleset refusing = (refused_ends, refused_stays)
-
 module _ (x : D.Lexer) (last : Bool) (chunk carry list : List ℕ) where
   abbrev m : Lexer
   m = meaning x
@@ -294,68 +271,55 @@ module _ (x : D.Lexer) (last : Bool) (chunk carry list : List ℕ) where
   abbrev need : ℕ
   need = length (given m last chunk)
 
-  -- no room
-  pub deliver_short : (r : Fed) {v : ℕ} → Shortage (length list / record_words) need v → (v ≡ 0 → ⊥) → Refused x room_too_small v r → Delivered x last chunk carry list r carry list
-  deliver_short r {v} s n f =
-      let z = s.many n in
-      let e : eqb r.answer.number done ≡ false = ne_eqb r.answer.number done (λ y. omega (arith, y, f.number_is)) in
+  pub attempt_refused : (r : FeedRefusal) → Checked m last chunk (Err r) → Attempted x last chunk carry list (Err r) carry list
+  attempt_refused r k = (answer_then m last chunk (length list) ∙ rw k (by r), record { kept = refl; words_are = refl })
+    where
+      by : (r : FeedRefusal) → feed_refused r and_then check_room (length list / record_words) need ≡ feed_refused r
+      by NotOpen = refl
+      by (Text UnknownSelector) = refl
+      by (Text TooLong) = refl
+      by (Text (NotUtf8 n)) = refl
+      by (Text (RoomTooSmall n)) = refl
+      by (Text (DirectionMark n)) = refl
+
+  module _ (c : Scan) (k : Checked m last chunk (Ok c)) where
+    checked : answer m last chunk (length list) ≡ check_room (length list / record_words) need
+    checked = answer_then m last chunk (length list) ∙ rw k.0
+
+    pub attempt_short : (r : Refusal) (carry' list' : List ℕ) → Delivered x last chunk carry list (Err r) carry' list' → Attempted x last chunk carry list (Err (Text r)) carry' list'
+    attempt_short r carry' list' d = (checked ∙ d.0, d.1)
+
+    pub attempt_stored : (f : Fed) (carry' list' : List ℕ) → Delivered x last chunk carry list (Ok f) carry' list' → Attempted x last chunk carry list (Ok f) carry' list'
+    attempt_stored f carry' list' d = (checked ∙ d.0, d.1)
+
+  pub deliver_stored : need ≤ length list / record_words → (f : Fed) (carry' : List ℕ) {list' : List ℕ} {w : Went} {s : State × ℕ} → Gone (given m last chunk, s) true list 0 w list' → Accepted m last chunk carry f carry' → Delivered x last chunk carry list (Ok f) carry' list'
+  deliver_stored h f carry' g a = (rw (le-ltb (length list / record_words) need h), record { accepts = a; words_are = stores m last chunk h g })
+
+  pub call_stored : (f : Fed) (carry' list' : List ℕ) → Attempted x last chunk carry list (Ok f) carry' list' → Called x last chunk carry list f.answer.number f.answer.also f.lexer carry' list'
+  unfolding next_of next_carry next_list
+  call_stored f carry' list' a =
+      let g = a.1.accepts in
       record {
-        answered = rw (lt-ltb (length list / record_words) need (s.short n)) (record { number_is = f.number_is; also_is = f.also_is ∙ z });
-        lexer = rw e f.lexer;
-        kept = rw e;
-        words = rw e;
+        answered = rw a.0 (record { number_is = g.number_is; also_is = g.also_is });
+        lexer = rw a.0 g.lexer;
+        kept = rw a.0 g.kept;
+        words = rw a.0 a.1.words_are;
       }
 
-  pub deliver_done : (r : Fed) (carry' : List ℕ) {list' : List ℕ} {v : ℕ} → Shortage (length list / record_words) need v → v ≡ 0 → Accepted m last chunk carry r carry' → list' ≡ over (words (given m last chunk)) list → Delivered x last chunk carry list r carry' list'
-  deliver_done r carry' s n f w =
-      let e : eqb r.answer.number done ≡ true = eq-eqb r.answer.number done f.number_is in
+  some : (r : FeedRefusal) → eqb (feed_refused r).0 done ≡ false
+  some NotOpen = refl
+  some (Text UnknownSelector) = refl
+  some (Text TooLong) = refl
+  some (Text (NotUtf8 n)) = refl
+  some (Text (RoomTooSmall n)) = refl
+  some (Text (DirectionMark n)) = refl
+
+  pub call_refused : (r : FeedRefusal) (f : Fed) (carry' list' : List ℕ) → Attempted x last chunk carry list (Err r) carry' list' → Refused x (feed_refused r).0 (feed_refused r).1 f → Called x last chunk carry list f.answer.number f.answer.also f.lexer carry' list'
+  unfolding next_of next_carry next_list
+  call_refused r f carry' list' a g =
       record {
-        answered = rw (le-ltb (length list / record_words) need (s.enough n)) (record { number_is = f.number_is; also_is = f.also_is });
-        lexer = rw e f.lexer;
-        kept = rw e f.kept;
-        words = rw e w;
+        answered = rw a.0 (record { number_is = g.number_is; also_is = g.also_is });
+        lexer = rw (a.0, some r) g.lexer;
+        kept = rw (a.0, some r) a.1.kept;
+        words = rw (a.0, some r) a.1.words_are;
       }
-
-  -- ---- a call
-  module _ (c : Scan) (k : Checked m last chunk c) where
-    checked : check_of m last chunk ≡ (c.number, c.also)
-    checked = by (check_of m last chunk) k.answered.number_is k.answered.also_is
-      where
-        by : (p : ℕ × ℕ) → c.number ≡ p.0 → c.also ≡ p.1 → p ≡ (c.number, c.also)
-        by (n, a) e f = rw (e, f)
-
-    pub call_refused : (r : Fed) → (c.number ≡ done → ⊥) → Refused x c.number c.also r → Called x last chunk carry list r.answer.number r.answer.also r.lexer carry list
-    unfolding next_of next_carry next_list
-    call_refused r n f =
-        let e : eqb c.number done ≡ false = ne_eqb c.number done n in
-        let a : answer m last chunk (length list) ≡ (c.number, c.also) = answer_then m last chunk (length list) ∙ rw (checked, e) in
-        rw (f.number_is, f.also_is)
-        (record {
-          answered = rw a (record { number_is = refl; also_is = refl });
-          lexer = rw (a, e) f.lexer;
-          kept = rw (a, e);
-          words = rw (a, e);
-        })
-
-    pub call_delivered : (r : Fed) (carry' list' : List ℕ) → c.number ≡ done → Delivered x last chunk carry list r carry' list' → Called x last chunk carry list r.answer.number r.answer.also r.lexer carry' list'
-    unfolding next_of next_carry next_list
-    call_delivered r carry' list' n f =
-        let e : eqb c.number done ≡ true = eq-eqb c.number done n in
-        let a : answer m last chunk (length list) ≡ check_room (length list / record_words) need = answer_then m last chunk (length list) ∙ rw (checked, e) in
-        let i : (answer m last chunk (length list)).0 ≡ r.answer.number = ap (λ (y : ℕ × ℕ). y.0) a ∙ sym f.answered.number_is in
-        record {
-          answered = rw a f.answered;
-          lexer = rw i (f.lexer ∙ roomed r.answer.number f.answered.number_is);
-          kept = rw i f.kept;
-          words = rw i f.words;
-        }
-      where
-        -- room that is too small does not end the lexer
-        roomed : (n : ℕ) → n ≡ (check_room (length list / record_words) need).0 → ◌≡◌ {A = D.Lexer} (cond (eqb n done) (packed (accepted m last chunk carry)) x) (cond (eqb n done) (packed (accepted m last chunk carry)) (cond (eqb n too_long || (eqb n not_utf8 || eqb n direction_mark)) (ended_lexer x) x))
-        roomed n e = by_test (ltb (length list / record_words) need) (λ t. let z : n ≡ room_too_small = rw t at e in rw z) (λ t. let z : n ≡ done = rw t at e in rw z)
-
-pub ruleset shortages = (pass_ready, short_none, short_more, short_fits)
-
-pub ruleset delivering = (pass_ready, accept_ready, deliver_short, deliver_done)
-
-pub ruleset calling = (check_ready, call_refused, call_delivered)

@@ -7,6 +7,7 @@ use mathlib.Core.List.{List, [], ◌∷◌, ◌++◌}
 use native.Mathlib.Decide.{ℕ_discrete}
 use native.Mathlib.Omega.{arith}
 use lib.Dec.{eqb}
+use Rattle.std.specs.Prelude.{Option, None, Some, Result, Ok, Err}
 use lib.ListN.{length, take, drop, length-append, length-take, length-drop, drop_of_length-le}
 use lib.Seq.{take_all, drop-drop, drop-append-add}
 use borrow.Author.Tests.{lt-ltb, le-ltb, lt-leb, ltb-true, ltb-false, eq-eqb, ne_eqb, eqb-true, not-true, not-false}
@@ -34,6 +35,7 @@ use Rattle.parts.specs.Steps.{HeadIs, WholeHead, ShortHead, BadHead, RestScanned
 use Rattle.parts.specs.declared.pend.Pend.{Pend}
 use Rattle.parts.specs.declared.pend.Head as H
 use Rattle.parts.specs.declared.pend.Head.TheVariants as Y
+use Rattle.text.specs.declared.Refusal.{Refusal}
 use Rattle.parts.specs.declared.check.Scan.{Scan}
 use Rattle.parts.specs.declared.Lexer.{Lexer}
 
@@ -184,42 +186,33 @@ module _ (last : Bool) (fed : ℕ) (chunk : List ℕ) (from : ℕ) {clean : ℕ}
     under : clean < length (drop from chunk)
     under = omega (arith, length-drop from chunk)
 
-    pub rest_mark : {head : Bool} {x : ℕ} {c : Scan} → code < 1114112 → c.number ≡ direction_mark → c.also ≡ fed + (from + clean) → RestScanned last fed chunk from head x c
-    rest_mark h n a =
+    pub rest_mark : code < 1114112 → fault_of last (fed + from) (drop from chunk) ≡ (direction_mark, fed + (from + clean))
+    rest_mark h =
         let k = at_mark (drop from chunk) upto under there h in
-        let f = fault_mark last (fed + from) (drop from chunk) k.0 in
-        record {
-          answered = rw f (record { number_is = n; also_is = a ∙ place _ k.1 });
-          good = λ z. absurd (omega arith);
-        }
+        fault_mark last (fed + from) (drop from chunk) k.0 ∙ rw (place _ k.1)
 
-    bad : {head : Bool} {x : ℕ} {c : Scan} → 1114112 ≤ code → cond last (eqb (length (beyond (drop from chunk))) 0) (unfinished (beyond (drop from chunk))) ≡ false →
-        c.number ≡ not_utf8 → c.also ≡ fed + (from + clean) → RestScanned last fed chunk from head x c
-    bad h g n a =
+    bad : 1114112 ≤ code → cond last (eqb (length (beyond (drop from chunk))) 0) (unfinished (beyond (drop from chunk))) ≡ false → fault_of last (fed + from) (drop from chunk) ≡ (not_utf8, fed + (from + clean))
+    bad h g =
         let k = at_none (drop from chunk) upto under there h in
-        let f = fault_bad last (fed + from) (drop from chunk) k.0 g in
-        record {
-          answered = rw f (record { number_is = n; also_is = a ∙ place _ k.1 });
-          good = λ z. absurd (omega arith);
-        }
+        fault_bad last (fed + from) (drop from chunk) k.0 g ∙ rw (place _ k.1)
 
     some : 1114112 ≤ code → length (beyond (drop from chunk)) ≡ 0 → ⊥
     some h z = omega (arith, (at_none (drop from chunk) upto under there h).1, length-drop (valid_up_to (drop from chunk)) (drop from chunk), under)
 
-    pub rest_last : {head : Bool} {x : ℕ} {c : Scan} → 1114112 ≤ code → last ≡ true → c.number ≡ not_utf8 → c.also ≡ fed + (from + clean) → RestScanned last fed chunk from head x c
-    rest_last h t n a = bad h (rw (t, ne_eqb (length (beyond (drop from chunk))) 0 (some h))) n a
+    pub rest_last : 1114112 ≤ code → last ≡ true → fault_of last (fed + from) (drop from chunk) ≡ (not_utf8, fed + (from + clean))
+    rest_last h t = bad h (rw (t, ne_eqb (length (beyond (drop from chunk))) 0 (some h)))
 
     module _ {u : Bool} (h : 1114112 ≤ code) (t : last ≡ false) (v : u ≡ unfinished (part chunk (from + clean))) where
       ends : unfinished (beyond (drop from chunk)) ≡ u
       ends = rw (tail_is (at_none (drop from chunk) upto under there h).1) at (sym v)
 
-      pub rest_bad : {head : Bool} {x : ℕ} {c : Scan} → not u ≡ true → c.number ≡ not_utf8 → c.also ≡ fed + (from + clean) → RestScanned last fed chunk from head x c
-      rest_bad g n a = bad h (rw (t, ends, not-true u g)) n a
+      pub rest_bad : u ≡ false → fault_of last (fed + from) (drop from chunk) ≡ (not_utf8, fed + (from + clean))
+      rest_bad g = bad h (rw (t, ends, g))
 
-      pub rest_open : not u ≡ false → Open last (drop from chunk) clean
+      pub rest_open : u ≡ true → Open last (drop from chunk) clean
       rest_open g =
           let k = at_none (drop from chunk) upto under there h in
-          record { free = k.0; goes = rw (t, ends, not-false u g); upto = k.1 }
+          record { free = k.0; goes = rw (t, ends, g); upto = k.1 }
 
   pub rest_end : from ≤ length chunk → length chunk ≤ from + clean → Open last (drop from chunk) clean
   unfolding unfinished
@@ -231,16 +224,12 @@ module _ (last : Bool) (fed : ℕ) (chunk : List ℕ) (from : ℕ) {clean : ℕ}
   pub rest_short : Open last (drop from chunk) clean → length (part chunk (from + clean)) ≤ 3
   rest_short o = rw (tail_is o.upto) (open_short last o)
 
-  pub rest_good : {head : Bool} {x : ℕ} {q : Pend} → Open last (drop from chunk) clean → q ≡ packed_pend (part chunk (from + clean)) →
-      RestScanned last fed chunk from head x (record { number = 0; also = 0; head = head; code = x; from = from; until = from + clean; pend = q })
+  pub rest_good : {head : Option ℕ} {q : Pend} → Open last (drop from chunk) clean → q ≡ packed_pend (part chunk (from + clean)) → RestScanned last fed chunk from head (Ok (record { head = head; from = from; until = from + clean; pend = q }))
   rest_good o p =
-      let f = fault_none last (fed + from) (drop from chunk) o.free o.goes in
-      record {
-        answered = rw f (record { number_is = refl; also_is = refl });
-        good = λ z. record { head_is = refl; code_is = refl; from_is = refl; until_is = ap (λ (k : ℕ). from + k) o.upto; rest = p ∙ ap packed_pend (tail_is o.upto) };
-      }
-
-pub ruleset rests = (rest_mark, rest_last, rest_bad, rest_open, rest_end, rest_good)
+      (
+        fault_none last (fed + from) (drop from chunk) o.free o.goes,
+        record { head_is = refl; from_is = refl; until_is = ap (λ (k : ℕ). from + k) o.upto; rest = p ∙ ap packed_pend (tail_is o.upto) }
+      )
 
 -- ---- by what the first character is
 module _ (pend chunk : List ℕ) (h : H.Head) (i : HeadIs pend chunk h) where
@@ -287,31 +276,30 @@ module _ {pend chunk : List ℕ} {code from : ℕ} (w : WholeHead pend chunk cod
         let y : at + valid_up_to (pend ++ chunk) ≡ at + width code + valid_up_to (drop from chunk) = omega (arith, valid_head) in
         rw (u, z, y, beyond_head)
 
-  module _ {last : Bool} {fed : ℕ} {t : Bool} (e : t ≡ is_direction code) (l : length pend ≤ fed) where
-    pub scanned_mark : {c : Scan} {k : ℕ} → t ≡ true → k ≡ length pend → c.number ≡ direction_mark → c.also ≡ fed - k → Scanned last (fed - length pend) pend chunk c
-    scanned_mark h j n a =
-        record {
-          answered = rw (mark_head last (fed - length pend) (sym e ∙ h)) (record { number_is = n; also_is = rw j at a });
-          good = λ z. absurd (omega arith);
-        }
+  module _ (last : Bool) (fed : ℕ) {t : Bool} (e : t ≡ is_direction code) (l : length pend ≤ fed) where
+    pub scanned_mark : {k : ℕ} → t ≡ true → k ≡ length pend → fault_of last (fed - length pend) (pend ++ chunk) ≡ (direction_mark, fed - k)
+    scanned_mark h j = mark_head last (fed - length pend) (sym e ∙ h) ∙ rw (← j)
 
-    pub scanned_rest : {c : Scan} → t ≡ false → RestScanned last fed chunk from true code c → Scanned last (fed - length pend) pend chunk c
-    scanned_rest {c} h r =
+    to_rest : t ≡ false → fault_of last (fed - length pend) (pend ++ chunk) ≡ fault_of last (fed + from) (drop from chunk)
+    to_rest h =
         let z : fed - length pend + width code ≡ fed + from = omega (arith, w.wide) in
-        let f : fault_of last (fed - length pend) (pend ++ chunk) ≡ fault_of last (fed + from) (drop from chunk) = fault_head last (fed - length pend) (sym e ∙ h) ∙ ap (λ (k : ℕ). fault_of last k (drop from chunk)) z in
-        record {
-          answered = rw f r.answered;
-          good = λ d.
-              let g = r.good d in
-              let v = valid_up_to (drop from chunk) in
-              let k : c.until - c.from ≡ v = omega (arith, g.until_is, g.from_is) in
-              record {
-                low = omega (arith, g.until_is, g.from_is);
-                high = omega (arith, g.until_is, valid_within (drop from chunk), length-drop from chunk, w.within);
-                are = whole_head ∙ rw (k, g.head_is, g.code_is, g.from_is);
-                rest = g.rest ∙ ap packed_pend (sym beyond_head);
-              };
-        }
+        fault_head last (fed - length pend) (sym e ∙ h) ∙ ap (λ (k : ℕ). fault_of last k (drop from chunk)) z
+
+    pub scanned_rest : t ≡ false → (r : Result Scan Refusal) → RestScanned last fed chunk from (Some code) r → Scanned last (fed - length pend) pend chunk r
+    scanned_rest h (Err r) s = to_rest h ∙ s
+    scanned_rest h (Ok c) s =
+        let g = s.1 in
+        let v = valid_up_to (drop from chunk) in
+        let k : c.until - c.from ≡ v = omega (arith, g.until_is, g.from_is) in
+        (
+          to_rest h ∙ s.0,
+          record {
+            low = omega (arith, g.until_is, g.from_is);
+            high = omega (arith, g.until_is, valid_within (drop from chunk), length-drop from chunk, w.within);
+            are = whole_head ∙ rw (k, g.head_is, g.from_is);
+            rest = g.rest ∙ ap packed_pend (sym beyond_head);
+          }
+        )
 
 -- ---- bytes none of which is a whole character
 module _ (s : List ℕ) (v : valid_up_to s ≡ 0) where
@@ -339,140 +327,57 @@ longer pend chunk l h = omega (arith, length-append pend chunk)
 none_whole : {pend chunk : List ℕ} {q : Pend} → ShortHead pend chunk q → valid_up_to (pend ++ chunk) ≡ 0
 none_whole {pend} {chunk} h = unfinished_none (pend ++ chunk) h.short
 
-module _ {last : Bool} (fed : ℕ) {pend chunk : List ℕ} (l : 0 < length pend) where
-  refuse : {c : Scan} {k : ℕ} → fault_of last (fed - length pend) (pend ++ chunk) ≡ (not_utf8, fed - length pend) → k ≡ length pend → c.number ≡ not_utf8 → c.also ≡ fed - k → Scanned last (fed - length pend) pend chunk c
-  refuse f j n a = record { answered = rw f (record { number_is = n; also_is = rw j at a }); good = λ z. absurd (omega arith) }
-
-  pub scanned_bad : {c : Scan} {k : ℕ} → BadHead pend chunk → k ≡ length pend → c.number ≡ not_utf8 → c.also ≡ fed - k → Scanned last (fed - length pend) pend chunk c
+module _ (last : Bool) (fed : ℕ) (pend chunk : List ℕ) (l : 0 < length pend) {k : ℕ} (j : k ≡ length pend) where
+  pub scanned_bad : BadHead pend chunk → fault_of last (fed - length pend) (pend ++ chunk) ≡ (not_utf8, fed - k)
   scanned_bad b =
-      refuse (none_bad (pend ++ chunk) b.none last (fed - length pend) (rw (b.bad, ne_eqb (length (pend ++ chunk)) 0 (longer pend chunk l)) (cond_same false false refl last)))
+      none_bad (pend ++ chunk) b.none last (fed - length pend) (rw (b.bad, ne_eqb (length (pend ++ chunk)) 0 (longer pend chunk l)) (cond_same false false refl last)) ∙ rw (← j)
 
-  pub scanned_last : {q : Pend} {c : Scan} {k : ℕ} → ShortHead pend chunk q → last ≡ true → k ≡ length pend → c.number ≡ not_utf8 → c.also ≡ fed - k → Scanned last (fed - length pend) pend chunk c
-  scanned_last h t = refuse (none_bad (pend ++ chunk) (none_whole h) last (fed - length pend) (rw (t, ne_eqb (length (pend ++ chunk)) 0 (longer pend chunk l))))
+  pub scanned_last : {q : Pend} → ShortHead pend chunk q → last ≡ true → fault_of last (fed - length pend) (pend ++ chunk) ≡ (not_utf8, fed - k)
+  scanned_last h t =
+      none_bad (pend ++ chunk) (none_whole h) last (fed - length pend) (rw (t, ne_eqb (length (pend ++ chunk)) 0 (longer pend chunk l))) ∙ rw (← j)
 
-module _ {last : Bool} {at : ℕ} {pend chunk : List ℕ} {q : Pend} (h : ShortHead pend chunk q) where
-  pub scanned_short : last ≡ false → Scanned last at pend chunk (record { number = 0; also = 0; head = false; code = 0; from = length chunk; until = length chunk; pend = q })
+module _ (last : Bool) (at : ℕ) {pend chunk : List ℕ} {q : Pend} (h : ShortHead pend chunk q) where
+  pub scanned_short : last ≡ false → Scanned last at pend chunk (Ok (record { head = None; from = length chunk; until = length chunk; pend = q }))
   scanned_short t =
-      let f = none_good (pend ++ chunk) (none_whole h) last at (rw t h.short) in
       let z : length chunk - length chunk ≡ 0 = omega arith in
-      record {
-        answered = rw f (record { number_is = refl; also_is = refl });
-        good = λ d. record {
+      (
+        none_good (pend ++ chunk) (none_whole h) last at (rw t h.short),
+        record {
           low = omega arith;
           high = omega arith;
           are = rw (no_whole (pend ++ chunk) (none_whole h), z);
           rest = h.same ∙ ap packed_pend (sym (all_beyond (pend ++ chunk) (none_whole h)));
-        };
-      }
+        }
+      )
 
 -- ---- where nothing is pending
-rest_all : {last : Bool} {fed : ℕ} {chunk : List ℕ} {c : Scan} → RestScanned last fed chunk 0 false 0 c → Scanned last (fed - 0) [] chunk c
-rest_all {last} {fed} {chunk} {c} r =
+rest_all : (last : Bool) (fed : ℕ) (chunk : List ℕ) (r : Result Scan Refusal) → RestScanned last fed chunk 0 None r → Scanned last (fed - 0) [] chunk r
+rest_all last fed chunk (Err r) s = let z : fed + 0 ≡ fed - 0 = omega arith in rw z at s
+rest_all last fed chunk (Ok c) s =
     let z : fed + 0 ≡ fed - 0 = omega arith in
-    record {
-      answered = rw z at r.answered;
-      good = λ d.
-          let g = r.good d in
-          let u : c.until ≡ valid_up_to chunk = omega (arith, g.until_is) in
-          let k : c.until - c.from ≡ valid_up_to chunk = omega (arith, u, g.from_is) in
-          record {
-            low = omega (arith, g.from_is);
-            high = omega (arith, u, valid_within chunk);
-            are = rw (k, g.head_is, g.from_is);
-            rest = g.rest;
-          };
-    }
+    let g = s.1 in
+    let u : c.until ≡ valid_up_to chunk = omega (arith, g.until_is) in
+    let k : c.until - c.from ≡ valid_up_to chunk = omega (arith, u, g.from_is) in
+    (
+      rw z at s.0,
+      record {
+        low = omega (arith, g.from_is);
+        high = omega (arith, u, valid_within chunk);
+        are = rw (k, g.head_is, g.from_is);
+        rest = g.rest;
+      }
+    )
 
-pub scanned_none : (p : Pend) {last : Bool} {fed : ℕ} {chunk : List ℕ} {c : Scan} → p.count ≡ 0 → RestScanned last fed chunk 0 false 0 c →
-    Scanned last (fed - length (pend_of p)) (pend_of p) chunk c
-scanned_none p e r = rw e (rest_all r)
+pub scanned_none : (p : Pend) (last : Bool) (fed : ℕ) (chunk : List ℕ) (r : Result Scan Refusal) → p.count ≡ 0 → RestScanned last fed chunk 0 None r → Scanned last (fed - length (pend_of p)) (pend_of p) chunk r
+scanned_none p last fed chunk r e s = rw e (rest_all last fed chunk r s)
 
 pub pend_some : (p : Pend) → (p.count ≡ 0 → ⊥) → 0 < length (pend_of p)
 pend_some p h = omega (arith, length-take p.count (p.one ∷ p.two ∷ p.three ∷ []), h)
 
-pub ruleset scans = (scanned_mark, scanned_rest, scanned_bad, scanned_last, scanned_short, scanned_none, pend_some)
-
--- ---- whether a value is a lexer that has not ended
-runs_by : (over : Bool) (b : Bool) {r : Bool} → over ≡ false → r ≡ b → r ≡ not (over || not b)
-runs_by true b e h = absurd (false≢true (sym e))
-runs_by false true e h = h
-runs_by false false e h = h
-
-shifted : (a b n c : ℕ) → n ≤ c → eqb (a + b) (c - n) ≡ eqb (a + (b + n)) c
-shifted a b n c h =
-    elim (ℕ_discrete (a + b) (c - n)) [
-      | yes e ↦ eq-eqb (a + b) (c - n) e ∙ sym (eq-eqb (a + (b + n)) c (omega arith))
-      | no f ↦ ne_eqb (a + b) (c - n) f ∙ sym (ne_eqb (a + (b + n)) c (λ z. f (omega arith)))
-    ]
-
-module _ (x : Lexer) where
-  pub run_over : (x.over ≡ 0 → ⊥) → false ≡ not (flag x.over || not (running (meaning x)))
-  run_over h = rw (ne_eqb x.over 0 h)
-
-  module _ (o : x.over ≡ 0) {t : Bool} (e : t ≡ unfinished (pend_of x.pend)) where
-    by_running : {r : Bool} → r ≡ running (meaning x) → r ≡ not (flag x.over || not (running (meaning x)))
-    by_running h = runs_by (flag x.over) (running (meaning x)) (rw o) h
-
-    pub run_closed : not t ≡ true → false ≡ not (flag x.over || not (running (meaning x)))
-    unfolding running
-    run_closed h = by_running (rw (sym e ∙ not-true t h))
-
-    module _ (h : not t ≡ false) {n : ℕ} (k : n ≡ length (pend_of x.pend)) where
-      pub run_few : x.fed < n → false ≡ not (flag x.over || not (running (meaning x)))
-      unfolding running
-      run_few g =
-          let m = taken (machine_of x.machine) in
-          by_running (rw (sym e ∙ not-false t h, ne_eqb (x.begun + (m + length (pend_of x.pend))) x.fed (λ z. omega arith), and_false))
-
-      pub run_is : {r : Bool} → n ≤ x.fed → r ≡ (fits (machine_of x.machine) && eqb (x.begun + taken (machine_of x.machine)) (x.fed - n)) → r ≡ not (flag x.over || not (running (meaning x)))
-      unfolding running
-      run_is g f =
-          let m = taken (machine_of x.machine) in
-          by_running (f ∙ rw (sym e ∙ not-false t h, shifted x.begun m n x.fed g, k))
-
-pub ruleset runs = (run_over, run_closed, run_few, run_is)
-
--- ---- the refusals in their order
-module _ (x : Lexer) (last : Bool) (chunk : List ℕ) {t : Bool} (e : t ≡ not (flag x.over || not (running (meaning x)))) where
-  pub check_over : {c : Scan} → not t ≡ true → c.number ≡ not_open → c.also ≡ 0 → Checked (meaning x) last chunk c
-  unfolding check_of
-  check_over h n a =
-      let k : (flag x.over || not (running (meaning x))) ≡ true = not-false (flag x.over || not (running (meaning x))) (sym e ∙ not-true t h) in
-      record { answered = rw k (record { number_is = n; also_is = a }); good = λ z. absurd (omega arith) }
-
-  module _ (h : not t ≡ false) where
-    opened : (flag x.over || not (running (meaning x))) ≡ false
-    opened = not-true (flag x.over || not (running (meaning x))) (sym e ∙ not-false t h)
-
-    pub check_unknown : {c : Scan} → 2 ≤ x.profile → c.number ≡ unknown_selector → c.also ≡ 0 → Checked (meaning x) last chunk c
-    unfolding check_of
-    check_unknown g n a =
-        record { answered = rw (opened, le-ltb x.profile 2 g) (record { number_is = n; also_is = a }); good = λ z. absurd (omega arith) }
-
-    module _ (g : x.profile < 2) where
-      pub check_long : {c : Scan} → longest - x.fed < length chunk → c.number ≡ too_long → c.also ≡ 0 → Checked (meaning x) last chunk c
-      unfolding check_of
-      check_long l n a =
-          record {
-            answered = rw (opened, lt-ltb x.profile 2 g, lt-ltb longest (x.fed + length chunk) (omega arith)) (record { number_is = n; also_is = a });
-            good = λ z. absurd (omega arith);
-          }
-
-      pub check_so : {c : Scan} → x.fed ≤ longest → length chunk ≤ longest - x.fed → Scanned last (x.fed - length (pend_of x.pend)) (pend_of x.pend) chunk c → Checked (meaning x) last chunk c
-      unfolding check_of
-      check_so f l s =
-          record {
-            answered = rw (opened, lt-ltb x.profile 2 g, le-ltb longest (x.fed + length chunk) (omega arith)) s.answered;
-            good = s.good;
-          }
-
-pub ruleset checks = (check_over, check_unknown, check_long, check_so)
-
 -- what runs is open, and has been fed what is pending
-either : (a b : Bool) → (a || not b) ≡ false → b ≡ true
-either true b h = absurd (false≢true (sym h))
-either false b h = not-false b h
-
-pub open_runs : (x : Lexer) {t : Bool} → t ≡ not (flag x.over || not (running (meaning x))) → not t ≡ false → Runs (meaning x)
-open_runs x {t} e h =
-    from_running (meaning x) (either (flag x.over) (running (meaning x)) (not-true (flag x.over || not (running (meaning x))) (sym e ∙ not-false t h)))
+pub open_runs : (x : Lexer) → (flag x.over || not (running (meaning x))) ≡ false → Runs (meaning x)
+open_runs x h = from_running (meaning x) (either (flag x.over) (running (meaning x)) h)
+  where
+    either : (a b : Bool) → (a || not b) ≡ false → b ≡ true
+    either true b h = absurd (false≢true (sym h))
+    either false b h = not-false b h

@@ -10,7 +10,10 @@ use mathlib.Core.Bool.{Bool, true, false}
 use mathlib.Core.List.{List, [], ◌∷◌, ◌++◌}
 use lib.Dec.{ltb}
 use lib.ListN.{length, take, drop, get_or, set, length-take, length-drop, length-set, length-append, take-append-drop}
-use lib.Seq.{sets, drop-cons, drop-drop, take-suc, take-suc-set, drop-set-lt, get_or-drop, take_all, take-nil, take-append-le, take-append-add, length-take-le, length-sets}
+use borrow.Rule.Slice.PartMut.{put_mid}
+use Rattle.std.proofs.lemmas.List.{take_min, drop_min}
+use Rattle.parts.proofs.Stores.{written}
+use lib.Seq.{paste, sets, drop-cons, drop-drop, take-suc, take-suc-set, drop-set-lt, get_or-drop, take_all, take-nil, take-append-le, take-append-add, length-take-le, length-sets}
 use borrow.Author.Tests.{lt-ltb, le-ltb, ltb-true, ltb-false}
 use Rattle.lists.specs.Over.{over}
 use Rattle.lists.proofs.Put.{sets_append}
@@ -102,79 +105,27 @@ module _ (place e : ℕ) (rs : List Rec) where
   end_in_put list h l = rw (stored_front (words rs) list h l) (end_in_front (drop (length (words rs)) list))
 
 -- ---- bytes moved to the front
-pub record Moving (carry₀ : List ℕ) (from n : ℕ) (carry : List ℕ) (i : ℕ) : Type 0 where
-  pub within : i ≤ n
-  pub room : n ≤ length carry₀ - from
-  pub front : take i carry ≡ take i (drop from carry₀)
-  pub rest : drop i carry ≡ drop i carry₀
-  pub long : length carry ≡ length carry₀
+pub moved_is : (carry : List ℕ) (from n m : ℕ) → m ≡ n → n ≤ length carry - from → paste carry 0 (drop from carry) m ≡ over (take n (drop from carry)) carry
+moved_is carry from n m e h =
+    let l : length (take n (drop from carry)) ≡ n = length-take-le n (drop from carry) (omega (arith, length-drop from carry)) in
+    let z : 0 + n ≡ n = omega arith in
+    rw (e, l, z)
 
-pub moving_none : (carry : List ℕ) (from n : ℕ) → n ≤ length carry - from → Moving carry from n carry 0
-moving_none carry from n h = record { within = omega arith; room = h; front = refl; rest = refl; long = refl }
-
-module _ {carry₀ carry : List ℕ} {from n i : ℕ} (s : Moving carry₀ from n carry i) where
-  pub moving_more : i < n → Moving carry₀ from n (set carry i (get_or carry (from + i) 0)) (i + 1)
-  moving_more h =
-      let v = get_or carry (from + i) 0 in
-      let y : from + i ≡ i + from = omega arith in
-      let u : v ≡ get_or (drop from carry₀) i 0 =
-      ap (λ (k : ℕ). get_or carry k 0) y ∙ sym (get_or-drop i carry from 0) ∙ ap (λ (l : List ℕ). get_or l from 0) s.rest ∙ get_or-drop i carry₀ from 0 ∙ ap (λ (k : ℕ). get_or carry₀ k 0) (sym y) ∙ sym (get_or-drop from carry₀ i 0) in
-      record {
-        within = omega arith;
-        room = s.room;
-        front = rw (add-one i) (take-suc-set carry i v (omega (arith, s.long, s.room)) ∙ rw (s.front, u) (sym (take-suc (drop from carry₀) i 0 (omega (arith, length-drop from carry₀, s.room)))));
-        rest = rw (add-one i) (drop-set-lt (suc i) carry i v (omega arith) ∙ rw (← add-one i) (sym (drop-drop 1 i carry) ∙ ap (drop 1) s.rest ∙ drop-drop 1 i carry₀));
-        long = length-set carry i v ∙ s.long;
-      }
-
-  pub moving_end : n ≤ i → carry ≡ over (take n (drop from carry₀)) carry₀
-  moving_end h =
-      let e : i ≡ n = omega (arith, s.within) in
-      let l : length (take n (drop from carry₀)) ≡ n = length-take-le n (drop from carry₀) (omega (arith, length-drop from carry₀, s.room)) in
-      sym (take-append-drop i carry) ∙ rw (s.front, s.rest, e, l)
+pub moved_none : (carry : List ℕ) (from n : ℕ) → n ≤ 0 → carry ≡ over (take n (drop from carry)) carry
+moved_none carry from n h = let z : n ≡ 0 = omega arith in rw z
 
 -- ---- bytes copied, as many as there is room for
-abbrev pub between : ℕ → ℕ → List ℕ → List ℕ
-between from until chunk = take (until - from) (drop from chunk)
+pub copied_is : (carry bytes : List ℕ) (k n : ℕ) {vs : List ℕ} → k ≤ length carry → n ≡ min (length bytes) (length carry - k) → vs ≡ take n bytes → Copied carry k bytes (k + n) (put_mid k (k + n - k) carry vs)
+copied_is carry bytes k n {vs} h e f =
+    let l : length vs ≡ n = ap length f ∙ length-take-le n bytes (omega arith) in
+    let m : min (length carry - k) (length bytes) ≡ n = omega arith in
+    let t : take (length carry - k) bytes ≡ vs = sym (take_min (length carry - k) bytes) ∙ ap (λ (i : ℕ). take i bytes) m ∙ sym f in
+    record { next = omega arith; same = rw t (written k (k + n) carry vs (omega arith) (omega arith)) }
 
--- to go on from here comes to the same
-pub record Copying (carry₀ : List ℕ) (k : ℕ) (chunk : List ℕ) (from until : ℕ) (carry : List ℕ) (at to : ℕ) : Type 0 where
-  pub room : to ≤ length carry
-  pub high : until ≤ length chunk
-  pub long : length carry ≡ length carry₀
-  pub same : {r : ℕ} {carry' : List ℕ} → Copied carry to (between at until chunk) r carry' → Copied carry₀ k (between from until chunk) r carry'
-
-pub copying_none : (carry : List ℕ) (k : ℕ) (chunk : List ℕ) (from until : ℕ) → k ≤ length carry → until ≤ length chunk → Copying carry k chunk from until carry from k
-copying_none carry k chunk from until h g = record { room = h; high = g; long = refl; same = λ x. x }
-
-module _ {carry₀ chunk carry : List ℕ} {k from until at to : ℕ} (s : Copying carry₀ k chunk from until carry at to) where
-  pub copying_more : at < until → to < length carry → Copying carry₀ k chunk from until (set carry to (get_or chunk at 0)) (at + 1) (to + 1)
-  copying_more h g =
-      let v = get_or chunk at 0 in
-      let rest = between (at + 1) until chunk in
-      let y : until - at ≡ suc (until - (at + 1)) = omega arith in
-      let b : between at until chunk ≡ v ∷ rest = rw (y, add-one at, drop-cons chunk at 0 (omega (arith, s.high))) in
-      let z : length carry - to ≡ suc (length carry - (to + 1)) = omega arith in
-      record {
-        room = omega (arith, length-set carry to v);
-        high = s.high;
-        long = length-set carry to v ∙ s.long;
-        same =
-            λ {r} {carry'} x.
-            let next : r ≡ min (length carry) (to + length (v ∷ rest)) = omega (arith, x.next, length-set carry to v) in
-            let same : carry' ≡ sets carry to (take (length carry - to) (v ∷ rest)) = x.same ∙ rw (length-set, z, add-one to) in
-            s.same (rw b (record { next = next; same = same }));
-      }
-
-  pub copying_full : length carry ≤ to → Copied carry₀ k (between from until chunk) to carry
-  copying_full h =
-      let z : length carry - to ≡ 0 = omega arith in
-      s.same (record { next = omega (arith, s.room); same = rw z })
-
-  pub copying_end : until ≤ at → Copied carry₀ k (between from until chunk) to carry
-  copying_end h =
-      let z : until - at ≡ 0 = omega arith in
-      s.same (rw z (record { next = omega (arith, s.room); same = rw take-nil }))
+-- from a place on, which may lie behind them
+pub from_on : (chunk : List ℕ) (back m : ℕ) → m ≡ min back (length chunk) → take (length chunk - m) (drop m chunk) ≡ drop back chunk
+from_on chunk back m e =
+    take_all (length chunk - m) (drop m chunk) (omega (arith, length-drop m chunk)) ∙ ap (λ (i : ℕ). drop i chunk) e ∙ drop_min back chunk
 
 -- some bytes, and others behind them
 copied_then : {carry carry₁ carry₂ a b : List ℕ} {k r r' : ℕ} → k ≤ length carry → Copied carry k a r carry₁ → Copied carry₁ r b r' carry₂ → Copied carry k (a ++ b) r' carry₂
@@ -213,8 +164,8 @@ front_kept {carry} {carry₁} {carry'} s {b} {r} h e p =
       same = rw t (stored_front (s ++ x) carry u w);
     }
 
-pub there_is : (carry : List ℕ) (old packed kept : ℕ) {a b m there : ℕ} → a ≡ kept - packed → b ≡ length carry - packed → m ≡ min a b → there ≡ min old m → there ≡ there_of carry old packed kept
-there_is carry old packed kept p q r s = s ∙ rw (r, p, q)
+pub there_is : (carry : List ℕ) (old packed kept : ℕ) {a b there : ℕ} → a ≡ min kept (length carry) → b ≡ a - packed → there ≡ min old b → there ≡ there_of carry old packed kept
+there_is carry old packed kept p q r = omega arith
 
 module _ (carry chunk : List ℕ) (old packed kept front back : ℕ) {there : ℕ} (e : there ≡ there_of carry old packed kept) where
   abbrev bytes_kept : List ℕ
@@ -224,21 +175,19 @@ module _ (carry chunk : List ℕ) (old packed kept front back : ℕ) {there : �
   moved = length-take-le there (drop packed carry) (omega (arith, length-drop packed carry))
 
   module _ {carry₁ : List ℕ} (m : carry₁ ≡ over (take there (drop packed carry)) carry) where
-    old_room : old ≤ there → old ≤ length carry₁
+    pub old_room : old ≤ there → old ≤ length carry₁
     old_room h = rw m (omega (arith, moved, length-append (take there (drop packed carry)) (drop (length (take there (drop packed carry))) carry), length-drop (length (take there (drop packed carry))) carry))
 
     pub some_kept : there < old → Kept bytes_kept carry there carry₁
     unfolding kept_bytes
     some_kept h = rw (← e, lt-ltb there old h) (record { many = sym moved; same = m })
 
-    pub all_kept : {carry₂ carry₃ : List ℕ} {n r : ℕ} → old ≤ there → Copied carry₁ old (between 0 front chunk) n carry₂ → Copied carry₂ n (between back (length chunk) chunk) r carry₃ → Kept bytes_kept carry r carry₃
+    pub all_kept : {carry₂ carry₃ : List ℕ} {n r : ℕ} → old ≤ there → Copied carry₁ old (take front chunk) n carry₂ → Copied carry₂ n (drop back chunk) r carry₃ → Kept bytes_kept carry r carry₃
     unfolding kept_bytes
     all_kept {carry₂} {carry₃} {n} {r} h p q =
         let i : there ≡ old = omega arith in
-        let z : front - 0 ≡ front = omega arith in
         let j : length (take old (drop packed carry)) ≡ old = rw i at moved in
-        let b : between back (length chunk) chunk ≡ drop back chunk = take_all (length chunk - back) (drop back chunk) (omega (arith, length-drop back chunk)) in
-        let c : Copied carry₁ old (take front chunk ++ drop back chunk) r carry₃ = rw (z, b) at (copied_then (old_room h) p q) in
+        let c : Copied carry₁ old (take front chunk ++ drop back chunk) r carry₃ = copied_then (old_room h) p q in
         rw (← e, le-ltb there old h) (front_kept (take old (drop packed carry)) (omega (arith, j)) (rw i at m) (rw j c))
 
 -- ---- of a lexer that runs

@@ -1,9 +1,8 @@
-pub mod Asking
-pub mod Keeping
 pub mod Turning
-pub mod Packing
-pub mod Passing
 pub mod Pending
+pub mod Stores
+pub mod Passing
+pub mod Keeping
 pub mod Checking
 pub mod Calling
 pub mod Bridge

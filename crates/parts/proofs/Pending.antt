@@ -21,57 +21,9 @@ use Rattle.parts.specs.Coded.{pend_of, packed_pend}
 use Rattle.parts.specs.Steps.{WholeHead, ShortHead, BadHead}
 use Rattle.parts.specs.declared.pend.Pend.{Pend}
 
--- ---- how many they are, and each of them
-module _ (p : Pend) where
-  long : length (pend_of p) ≡ min p.count 3
-  long = length-take p.count (p.one ∷ p.two ∷ p.three ∷ [])
-
-  pub three_most : length (pend_of p) ≤ 3
-  three_most = omega (arith, long)
-
-  pub count_most : 3 < p.count → 3 ≡ length (pend_of p)
-  count_most h = omega (arith, long)
-
-  pub count_is : p.count ≤ 3 → p.count ≡ length (pend_of p)
-  count_is h = omega (arith, long)
-
-  -- the byte at i
-  pub byte_past : (i : ℕ) {n : ℕ} → n ≡ length (pend_of p) → n ≤ i → 0 ≡ get_or (pend_of p) i 0
-  byte_past i e h = sym (get_or-eq_default (pend_of p) 0 {n = i} (omega arith))
-
-  module _ (i : ℕ) {n : ℕ} (e : n ≡ length (pend_of p)) (h : i < n) where
-    there : get_or (pend_of p) i 0 ≡ get_or (p.one ∷ p.two ∷ p.three ∷ []) i 0
-    there = get_or-take p.count (p.one ∷ p.two ∷ p.three ∷ []) i 0 (omega (arith, long))
-
-    pub byte_one : i ≡ 0 → p.one ≡ get_or (pend_of p) i 0
-    byte_one k = sym (there ∙ rw k)
-
-    pub byte_two : i ≡ 1 → p.two ≡ get_or (pend_of p) i 0
-    byte_two k = sym (there ∙ rw k)
-
-    pub byte_three : (i ≡ 0 → ⊥) → (i ≡ 1 → ⊥) → p.three ≡ get_or (pend_of p) i 0
-    byte_three k m = let z : i ≡ 2 = omega (arith, long) in sym (there ∙ rw z)
-
-pub ruleset counts = (count_most, count_is, byte_past, byte_one, byte_two, byte_three)
-
-pub past_end : (s : List ℕ) (i : ℕ) → length s ≤ i → 0 ≡ get_or s i 0
-past_end s i h = sym (get_or-eq_default s 0 {n = i} h)
-
 -- ---- as integers
 pub pend_is : (s : List ℕ) {n a b c : ℕ} → n ≡ length s → a ≡ get_or s 0 0 → b ≡ get_or s 1 0 → c ≡ get_or s 2 0 → ◌≡◌ {A = Pend} (record { count = n; one = a; two = b; three = c }) (packed_pend s)
 pend_is s e f g h = rw (e, f, g, h)
-
--- ---- a byte of two lists
-module _ (s t : List ℕ) {n : ℕ} (e : n ≡ length s) (i : ℕ) where
-  pub byte_front : {r : ℕ} → i < n → r ≡ get_or s i 0 → r ≡ get_or (s ++ t) i 0
-  byte_front h k = k ∙ sym (get_or-append s t 0 i (omega arith))
-
-  pub byte_behind : {r : ℕ} → n ≤ i → r ≡ get_or t (i - n) 0 → r ≡ get_or (s ++ t) i 0
-  byte_behind h k =
-      let z : length s + (i - n) ≡ i = omega arith in
-      k ∙ sym (get_or-append-add s t (i - n) 0) ∙ ap (λ (j : ℕ). get_or (s ++ t) j 0) z
-
-pub ruleset joins = (byte_front, byte_behind)
 
 -- ---- whether they are the beginning of a character
 module _ (p : Pend) {n : ℕ} (e : n ≡ length (pend_of p)) where

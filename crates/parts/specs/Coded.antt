@@ -8,24 +8,35 @@ use Rattle.phases.specs.Coded.{phase_of, tracker_of}
 use Rattle.phases.specs.Codec.{flag, flag_number, phase_at, code_of}
 use Rattle.parts.specs.declared.state.State as D
 use Rattle.parts.specs.declared.state.State.TheVariants as X
+use Rattle.parts.specs.declared.state.Token.{Token}
 use Rattle.parts.specs.declared.packed.Machine.{Machine}
 use Rattle.parts.specs.declared.pend.Pend.{Pend}
 use Rattle.parts.specs.declared.Lexer.{Lexer}
 
 -- ---- the machine between two characters
+-- a token that has begun, and with a character behind
+abbrev pub busy_of : Token → F.State
+busy_of t = F.busy (phase_of t.phase) t.eaten t.mark (tracker_of t.tracker)
+
+abbrev pub held_of : Token → ℕ → F.State
+held_of t x = F.held (phase_of t.phase) t.eaten t.mark (tracker_of t.tracker) x
+
 abbrev pub state_of : D.State → F.State
 state_of X.Idle = F.idle
-state_of (X.Busy q n m o) = F.busy (phase_of q) n m (tracker_of o)
-state_of (X.Held q n m o x) = F.held (phase_of q) n m (tracker_of o) x
+state_of (X.Busy t) = busy_of t
+state_of (X.Held t x) = held_of t x
 
 abbrev pub tracker_in : Machine → T.Tracker
 tracker_in x = record { found = x.found; wait = x.wait; prev = x.prev; hex = flag x.hex; shut = flag x.shut }
+
+abbrev pub busy_in : Machine → F.State
+busy_in x = F.busy (phase_at x.number x.one x.two) x.eaten x.mark (tracker_in x)
 
 abbrev pub machine_of : Machine → F.State
 machine_of x =
     let q = phase_at x.number x.one x.two in
     cond (eqb x.stage 0) F.idle
-    (cond (eqb x.stage 1) (F.busy q x.eaten x.mark (tracker_in x))
+    (cond (eqb x.stage 1) (busy_in x)
     (F.held q x.eaten x.mark (tracker_in x) x.held))
 
 abbrev pub no_machine : Machine

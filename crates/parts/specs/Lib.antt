@@ -1,3 +1,4 @@
 pub mod Coded
 pub mod Promises
 pub mod Steps
+pub mod Refusals

@@ -1,19 +1,14 @@
 // The machine between two characters as integers: what a caller may hold, and what comes back from it.
-ghost use Rattle.std.specs.Prelude.{◌≡◌, ◌&&◌, ◌+◌, ◌≤◌, eqb};
-ghost use Rattle.feeding.specs.Lexer.{depth_of, fits, taken};
-ghost use Rattle.phases.specs.Coded.{phase_of, tracker_of};
-ghost use Rattle.phases.specs.Codec.{flag_number, phase_at};
-ghost use Rattle.parts.specs.Coded.{state_of, tracker_in, machine_of, no_machine, machine_as, packed_machine};
-
-use crate::state::{State, width_of};
-use phases::codec::{Code, code_of, phase_of};
+use crate::state::{State, Token};
+use phases::Phase;
+use phases::codec::Code;
 use phases::tracker::Tracker;
-use phases::{Phase, depth_of};
+use std::num::NonZeroU32;
 
 // Nothing has been fed (0), a token has begun (1), or a character behind is not yet decided (any other); the phase as a code; the bytes eaten; where the
-// suffix starts; the tracker, its flags as numbers; that character.
+// suffix starts; the tracker, its flags as numbers; that character. A caller in C holds it, and so it has numbers for all that, with a meaning each.
 #[repr(C)]
-#[derive(Clone, Copy)]
+#[derive(Clone, Copy, Default)]
 pub struct Machine {
     pub stage: u32,
     pub number: u32,
@@ -29,129 +24,77 @@ pub struct Machine {
     pub held: u32,
 }
 
-fn phase_in(x: Machine) -> Phase
-    ensures { phase_of result ≡ phase_at x.number x.one x.two }
-{
-    phase_of(Code {
-        number: x.number,
-        one: x.one,
-        two: x.two,
-    })
-}
+impl From<Machine> for Token {
+    ghost use Rattle.std.specs.Prelude.{◌≡◌};
+    ghost use Rattle.parts.specs.Coded.{busy_of, busy_in};
 
-fn tracker_in(x: Machine) -> Tracker
-    ensures { tracker_of result ≡ tracker_in x }
-{
-    Tracker {
-        found: x.found,
-        wait: x.wait,
-        prev: x.prev,
-        hex: x.hex != 0,
-        shut: x.shut != 0,
-    }
-}
+    ghost from_gives = { λ x t. busy_of t ≡ busy_in x };
 
-pub fn unpack(x: Machine) -> State
-    ensures { state_of result ≡ machine_of x }
-{
-    if x.stage == 0 {
-        return State::Idle;
-    }
-    let q = phase_in(x);
-    let o = tracker_in(x);
-    if x.stage == 1 {
-        return State::Busy(q, x.eaten, x.mark, o);
-    }
-    State::Held(q, x.eaten, x.mark, o, x.held)
-}
-
-pub fn flag(b: bool) -> u32
-    ensures { result ≡ flag_number b }
-{
-    if b {
-        return 1;
-    }
-    0
-}
-
-fn pack_as(stage: u32, q: Phase, n: u32, m: u32, o: Tracker, x: u32) -> Machine
-    ensures { result ≡ machine_as stage (phase_of q) n m (tracker_of o) x }
-{
-    let c = code_of(q);
-    Machine {
-        stage,
-        number: c.number,
-        one: c.one,
-        two: c.two,
-        eaten: n,
-        mark: m,
-        found: o.found,
-        wait: o.wait,
-        prev: o.prev,
-        hex: flag(o.hex),
-        shut: flag(o.shut),
-        held: x,
+    fn from(x: Machine) -> Token {
+        Token {
+            phase: Phase::from(Code {
+                number: x.number,
+                one: x.one,
+                two: x.two,
+            }),
+            eaten: x.eaten,
+            mark: x.mark,
+            tracker: Tracker {
+                found: NonZeroU32::new(x.found),
+                wait: NonZeroU32::new(x.wait),
+                prev: x.prev,
+                hex: x.hex != 0,
+                shut: x.shut != 0,
+            },
+        }
     }
 }
 
-pub fn idle() -> Machine
-    ensures { result ≡ no_machine }
-{
-    Machine {
-        stage: 0,
-        number: 0,
-        one: 0,
-        two: 0,
-        eaten: 0,
-        mark: 0,
-        found: 0,
-        wait: 0,
-        prev: 0,
-        hex: 0,
-        shut: 0,
-        held: 0,
+impl From<Machine> for State {
+    ghost use Rattle.std.specs.Prelude.{◌≡◌};
+    ghost use Rattle.parts.specs.Coded.{state_of, machine_of};
+
+    ghost from_gives = { λ x s. state_of s ≡ machine_of x };
+
+    fn from(x: Machine) -> State {
+        match x.stage {
+            0 => State::Idle,
+            1 => State::Busy(Token::from(x)),
+            _ => State::Held {
+                token: Token::from(x),
+                next: x.held,
+            },
+        }
     }
 }
 
-pub fn pack(s: State) -> Machine
-    ensures { result ≡ packed_machine (state_of s) }
-{
-    match s {
-        State::Idle => idle(),
-        State::Busy(q, n, m, o) => pack_as(1, q, n, m, o, 0),
-        State::Held(q, n, m, o, x) => pack_as(2, q, n, m, o, x),
-    }
-}
+impl From<State> for Machine {
+    ghost use Rattle.std.specs.Prelude.{◌≡◌};
+    ghost use Rattle.parts.specs.Coded.{state_of, packed_machine};
 
-// Whether no comment is deeper than the bytes eaten.
-fn fits(x: Machine) -> bool
-    ensures { result ≡ fits (machine_of x) }
-{
-    if x.stage == 0 {
-        return true;
-    }
-    depth_of(phase_in(x)) <= x.eaten
-}
+    ghost from_gives = { λ s x. x ≡ packed_machine (state_of s) };
 
-// The bytes of whole characters that were fed and not handed out.
-fn taken(x: Machine) -> u64
-    ensures { (result ≡ taken (machine_of x)) × (result ≤ 8589934590) }
-{
-    if x.stage == 0 {
-        return 0;
+    fn from(state: State) -> Machine {
+        let (stage, token, held) = match state {
+            State::Idle => return Machine::default(),
+            State::Busy(token) => (1, token, 0),
+            State::Held { token, next } => (2, token, next),
+        };
+        let code = Code::from(token.phase);
+        let tracker = token.tracker;
+        Machine {
+            stage,
+            number: code.number,
+            one: code.one,
+            two: code.two,
+            eaten: token.eaten,
+            mark: token.mark,
+            found: tracker.found.map_or(0, NonZeroU32::get),
+            wait: tracker.wait.map_or(0, NonZeroU32::get),
+            prev: tracker.prev,
+            hex: tracker.hex as u32,
+            shut: tracker.shut as u32,
+            held,
+        }
     }
-    if x.stage == 1 {
-        return x.eaten as u64;
-    }
-    x.eaten as u64 + width_of(x.held) as u64
-}
-
-// Whether a machine whose token starts at `begun` has eaten what there is up to a place.
-pub fn runs(x: Machine, begun: u32, place: u64) -> bool
-    ensures { result ≡ (fits (machine_of x) && eqb (begun + taken (machine_of x)) place) }
-{
-    if !fits(x) {
-        return false;
-    }
-    begun as u64 + taken(x) == place
 }

@@ -2,170 +2,118 @@
 ghost use Rattle.std.specs.Prelude.{◌≡◌, true, ◌++◌, ◌+◌, ◌≤◌, length};
 ghost use Rattle.lists.specs.Steps.{PutIf};
 ghost use Rattle.characters.specs.Utf8.{chars};
-ghost use Rattle.lexer.specs.Unicode.{lent};
-ghost use Rattle.feeding.specs.Fed.{words, idle, feeds, finish};
+ghost use Rattle.lexer.specs.Unicode.{letters_in};
+ghost use Rattle.feeding.specs.Fed.{words, idle, feed, feeds, finish};
 ghost use Rattle.feeding.specs.Lexer.{taken};
 ghost use Rattle.parts.specs.Coded.{state_of};
-ghost use Rattle.parts.specs.Steps.{most, handed, one_of, passed, HeadReady, WordsReady, EndReady, PassReady, Gone};
+ghost use Rattle.parts.specs.Steps.{most, recs_of, first_of, passed, StepReady, HeadReady, WordsReady, EndReady, PassReady, Gone};
 
-use crate::state::{State, Turn, feed_one, last, release};
+use crate::state::{Point, Record, Rules};
 use characters::utf8::decode;
 use cutters::RECORD;
 
-// The state behind a part, where its token starts, and the place behind the words of the records.
+// The point behind a part, and the place behind the words of the records.
 #[derive(Clone, Copy)]
 pub struct Went {
-    pub state: State,
-    pub begun: u32,
+    pub point: Point,
     pub words: usize,
 }
 
 // The words of a record, where there is one, of a token that starts at `at`: the place behind them.
-fn put(list: &mut [u32], write: bool, k: usize, t: Turn, at: u32) -> usize
-    requires { (k ≤ most) × (write ≡ true → k + length (words (handed t at)) ≤ length list.old) }
-    ensures { PutIf write list.old k (words (handed t at)) list.new result }
+fn put(list: &mut [u32], write: bool, k: usize, given: Option<Record>, at: u32) -> usize
+    requires { (k ≤ most) × (write ≡ true → k + length (words (recs_of at given)) ≤ length list.old) }
+    ensures { PutIf write list.old k (words (recs_of at given)) list.new result }
 {
-    if !t.given {
+    let Some(record) = given else {
         return k;
+    };
+    if write {
+        list[k..k + RECORD].copy_from_slice(&record.words(at));
     }
-    if !write {
-        return k + RECORD;
-    }
-    list[k] = t.kind;
-    list[k + 1] = t.len;
-    list[k + 2] = t.suffix;
-    list[k + 3] = at;
-    list[k + 4] = t.misplaced;
     k + RECORD
 }
 
-// One character, where there is one.
-fn feed_head(
-    s: State,
-    begun: u32,
-    head: bool,
-    code: u32,
-    write: bool,
-    list: &mut [u32],
-    profile: u32,
-    start: &[u32],
-    more: &[u32],
-    emoji: &[u32],
-) -> Went
-    requires { HeadReady (lent start.now more.now emoji.now) profile begun (state_of s) head code write list.old }
-    ensures { Gone (feeds (lent start.now more.now emoji.now) profile begun (state_of s) (one_of head code)) write list.old 0 result list.new }
-{
-    if !head {
-        return Went {
-            state: s,
-            begun,
-            words: 0,
-        };
+impl Went {
+    // One character more.
+    fn feed(self, c: u32, write: bool, list: &mut [u32], rules: Rules<'_>) -> Went
+        requires { StepReady (letters_in rules.letters) rules.profile self c write list.old }
+        ensures { Gone (feed (letters_in rules.entry.letters) rules.entry.profile self.point.begun (state_of self.point.state) c) write list.old self.words result list.new }
+    {
+        let turn = self.point.feed(c, rules);
+        let words = put(list, write, self.words, turn.given, self.point.begun);
+        Went {
+            point: turn.point,
+            words,
+        }
     }
-    let t = feed_one(s, begun, code, profile, start, more, emoji);
-    let words = put(list, write, 0, t, begun);
-    let state = t.state;
-    Went {
-        state,
-        begun: t.begun,
-        words,
-    }
-}
 
-// The characters of some bytes, from the place k of the list on.
-fn feed_words(
-    s: State,
-    from: u32,
-    text: &[u8],
-    write: bool,
-    list: &mut [u32],
-    first: usize,
-    profile: u32,
-    start: &[u32],
-    more: &[u32],
-    emoji: &[u32],
-) -> Went
-    requires { WordsReady (lent start.now more.now emoji.now) profile from (state_of s) text.now write list.old first }
-    ensures { Gone (feeds (lent start.now more.now emoji.now) profile from (state_of s) (chars text.now)) write list.old first result list.new }
-{
-    let mut state = s;
-    let mut begun = from;
-    let mut at: usize = 0;
-    let mut k = first;
-    while at < text.len() {
-        let d = decode(text, at);
-        let t = feed_one(state, begun, d.code, profile, start, more, emoji);
-        let next = t.state;
-        state = next;
-        k = put(list, write, k, t, begun);
-        begun = t.begun;
-        at = at + d.wide;
+    // One character, where there is one.
+    fn feed_head(
+        self,
+        head: Option<u32>,
+        write: bool,
+        list: &mut [u32],
+        rules: Rules<'_>,
+    ) -> Went
+        requires { HeadReady (letters_in rules.letters) rules.profile self head write list.old }
+        ensures { Gone (feeds (letters_in rules.entry.letters) rules.entry.profile self.point.begun (state_of self.point.state) (first_of head)) write list.old self.words result list.new }
+    {
+        match head {
+            Some(c) => self.feed(c, write, list, rules),
+            None => self,
+        }
     }
-    Went {
-        state,
-        begun,
-        words: k,
-    }
-}
 
-// The end of the text.
-fn feed_end(
-    s: State,
-    begun: u32,
-    write: bool,
-    list: &mut [u32],
-    first: usize,
-    profile: u32,
-    start: &[u32],
-    more: &[u32],
-    emoji: &[u32],
-) -> Went
-    requires { EndReady (lent start.now more.now emoji.now) profile begun (state_of s) write list.old first }
-    ensures { Gone (finish (lent start.now more.now emoji.now) profile begun (state_of s), (idle, begun + taken (state_of s))) write list.old first result list.new }
-{
-    let t = release(s, begun, profile, start, more, emoji);
-    let k = put(list, write, first, t, begun);
-    let freed = t.state;
-    let e = last(freed, t.begun);
-    let words = put(list, write, k, e, t.begun);
-    let state = e.state;
-    Went {
-        state,
-        begun: e.begun,
-        words,
+    // The characters of some bytes.
+    fn feed_words(self, text: &[u8], write: bool, list: &mut [u32], rules: Rules<'_>) -> Went
+        requires { WordsReady (letters_in rules.letters) rules.profile self text.now write list.old }
+        ensures { Gone (feeds (letters_in rules.entry.letters) rules.entry.profile self.point.begun (state_of self.point.state) (chars text.now)) write list.old self.words result list.new }
+    {
+        let mut went = self;
+        let mut at: usize = 0;
+        while at < text.len() {
+            let d = decode(text, at);
+            went = went.feed(d.code, write, list, rules);
+            at = at + d.wide;
+        }
+        went
+    }
+
+    // The end of the text.
+    fn feed_end(self, write: bool, list: &mut [u32], rules: Rules<'_>) -> Went
+        requires { EndReady (letters_in rules.letters) rules.profile self write list.old }
+        ensures { Gone (finish (letters_in rules.entry.letters) rules.entry.profile self.point.begun (state_of self.point.state), (idle, self.point.begun + taken (state_of self.point.state))) write list.old self.words result list.new }
+    {
+        let freed = self.point.release(rules);
+        let k = put(list, write, self.words, freed.given, self.point.begun);
+        let last = freed.point.last();
+        let words = put(list, write, k, last.given, freed.point.begun);
+        Went {
+            point: last.point,
+            words,
+        }
     }
 }
 
 // A character before them, some bytes, and the end of the text, each where it is there.
 pub fn pass(
-    s: State,
-    begun: u32,
-    head: bool,
-    code: u32,
+    point: Point,
+    head: Option<u32>,
     text: &[u8],
     ends: bool,
     write: bool,
     list: &mut [u32],
-    profile: u32,
-    start: &[u32],
-    more: &[u32],
-    emoji: &[u32],
+    rules: Rules<'_>,
 ) -> Went
-    requires { PassReady (lent start.now more.now emoji.now) profile begun (state_of s) head code text.now ends write list.old }
-    ensures { Gone (passed (lent start.now more.now emoji.now) profile begun (state_of s) (one_of head code ++ chars text.now) ends) write list.old 0 result list.new }
+    requires { PassReady (letters_in rules.letters) rules.profile point.begun (state_of point.state) head text.now ends write list.old }
+    ensures { Gone (passed (letters_in rules.entry.letters) rules.entry.profile point.begun (state_of point.state) (first_of head ++ chars text.now) ends) write list.old 0 result list.new }
 {
-    let h = feed_head(
-        s, begun, head, code, write, list, profile, start, more, emoji,
-    );
-    let behind = h.state;
-    let w = feed_words(
-        behind, h.begun, text, write, list, h.words, profile, start, more, emoji,
-    );
-    if !ends {
-        return w;
+    let start = Went { point, words: 0 };
+    let behind = start.feed_head(head, write, list, rules);
+    let went = behind.feed_words(text, write, list, rules);
+    if ends {
+        went.feed_end(write, list, rules)
+    } else {
+        went
     }
-    let state = w.state;
-    feed_end(
-        state, w.begun, write, list, w.words, profile, start, more, emoji,
-    )
 }

@@ -1,5 +1,5 @@
 // The bytes of a character that is not finished.
-ghost use Rattle.std.specs.Prelude.{◌≡◌, true, [], ◌++◌, ◌≤◌, ◌<◌, length, get_or};
+ghost use Rattle.std.specs.Prelude.{◌≡◌, true, ◌++◌, ◌≤◌, ◌<◌, length, get_or};
 ghost use Rattle.characters.specs.Unfinished.{unfinished};
 ghost use Rattle.text.specs.Answer.{longest};
 ghost use Rattle.parts.specs.Coded.{pend_of, packed_pend};
@@ -7,9 +7,9 @@ ghost use Rattle.parts.specs.Steps.{HeadIs};
 
 use characters::utf8::{NO_CHAR, decode_four, is_begun};
 
-// At most three bytes, and how many; more than three stand for three.
+// At most three bytes, and how many; more than three stand for three. A caller in C holds it, and so it has a byte in each field and no slice.
 #[repr(C)]
-#[derive(Clone, Copy)]
+#[derive(Clone, Copy, Default)]
 pub struct Pend {
     pub count: u32,
     pub one: u8,
@@ -21,111 +21,95 @@ pub struct Pend {
 // are now there; or one that nothing can finish.
 #[derive(Clone, Copy)]
 pub enum Head {
-    Whole(u32, usize),
+    Whole { code: u32, from: usize },
     Short(Pend),
     Bad,
-}
-
-pub fn none() -> Pend
-    ensures { result ≡ packed_pend [] }
-{
-    Pend {
-        count: 0,
-        one: 0,
-        two: 0,
-        three: 0,
-    }
-}
-
-pub fn count_of(p: Pend) -> usize
-    ensures { result ≡ length (pend_of p) }
-{
-    if 3 < p.count {
-        return 3;
-    }
-    p.count as usize
-}
-
-fn byte_of(p: Pend, i: usize) -> u8
-    ensures { result ≡ get_or (pend_of p) i 0 }
-{
-    if count_of(p) <= i {
-        return 0;
-    }
-    if i == 0 {
-        return p.one;
-    }
-    if i == 1 {
-        return p.two;
-    }
-    p.three
 }
 
 fn byte(text: &[u8], at: usize) -> u8
     ensures { result ≡ get_or text.now at 0 }
 {
-    if at < text.len() {
-        return text[at];
-    }
-    0
+    text.get(at).map_or(0, |b| *b)
 }
 
-// The bytes of a text of at most three.
-pub fn pend_of(text: &[u8]) -> Pend
-    requires { length text.now ≤ 3 }
-    ensures { result ≡ packed_pend text.now }
-{
-    Pend {
-        count: text.len() as u32,
-        one: byte(text, 0),
-        two: byte(text, 1),
-        three: byte(text, 2),
+impl Pend {
+    // The bytes of a text of at most three.
+    pub fn holding(text: &[u8]) -> Pend
+        requires { length text.now ≤ 3 }
+        ensures { result ≡ packed_pend text.now }
+    {
+        Pend {
+            count: text.len() as u32,
+            one: byte(text, 0),
+            two: byte(text, 1),
+            three: byte(text, 2),
+        }
     }
-}
 
-// A byte of these and the chunk behind them.
-fn byte_at(p: Pend, chunk: &[u8], i: usize) -> u8
-    ensures { result ≡ get_or (pend_of p ++ chunk.now) i 0 }
-{
-    let n = count_of(p);
-    if i < n {
-        return byte_of(p, i);
+    pub fn len(self) -> usize
+        ensures { result ≡ length (pend_of self) }
+    {
+        self.count.min(3) as usize
     }
-    byte(chunk, i - n)
-}
 
-pub fn head_of(p: Pend, chunk: &[u8]) -> Head
-    requires { (unfinished (pend_of p) ≡ true) × (0 < length (pend_of p)) × (length chunk.now ≤ longest) }
-    ensures { HeadIs (pend_of p) chunk.now result }
-{
-    let n = count_of(p);
-    let a = byte_at(p, chunk, 0);
-    let b = byte_at(p, chunk, 1);
-    let c = byte_at(p, chunk, 2);
-    let d = byte_at(p, chunk, 3);
-    let x = decode_four(a, b, c, d);
-    if x.code < NO_CHAR {
-        return Head::Whole(x.code, x.wide - n);
+    fn byte(self, i: usize) -> u8
+        ensures { result ≡ get_or (pend_of self) i 0 }
+    {
+        if self.len() <= i {
+            return 0;
+        }
+        match i {
+            0 => self.one,
+            1 => self.two,
+            _ => self.three,
+        }
     }
-    let many = n + chunk.len();
-    if is_begun(many, a, b, c) {
-        return Head::Short(Pend {
-            count: many as u32,
-            one: a,
-            two: b,
-            three: c,
-        });
-    }
-    Head::Bad
-}
 
-// Whether these bytes could still become a character, or are none.
-pub fn is_open(p: Pend) -> bool
-    ensures { result ≡ unfinished (pend_of p) }
-{
-    let n = count_of(p);
-    if n == 0 {
-        return true;
+    // A byte of these and the chunk behind them.
+    fn byte_before(self, chunk: &[u8], i: usize) -> u8
+        ensures { result ≡ get_or (pend_of self ++ chunk.now) i 0 }
+    {
+        let n = self.len();
+        if i < n {
+            self.byte(i)
+        } else {
+            byte(chunk, i - n)
+        }
     }
-    is_begun(n, byte_of(p, 0), byte_of(p, 1), byte_of(p, 2))
+
+    pub fn head(self, chunk: &[u8]) -> Head
+        requires { (unfinished (pend_of self) ≡ true) × (0 < length (pend_of self)) × (length chunk.now ≤ longest) }
+        ensures { HeadIs (pend_of self) chunk.now result }
+    {
+        let a = self.byte_before(chunk, 0);
+        let b = self.byte_before(chunk, 1);
+        let c = self.byte_before(chunk, 2);
+        let d = self.byte_before(chunk, 3);
+        let x = decode_four(a, b, c, d);
+        if x.code < NO_CHAR {
+            return Head::Whole {
+                code: x.code,
+                from: x.wide - self.len(),
+            };
+        }
+        let many = self.len() + chunk.len();
+        if is_begun(many, a, b, c) {
+            return Head::Short(Pend {
+                count: many as u32,
+                one: a,
+                two: b,
+                three: c,
+            });
+        }
+        Head::Bad
+    }
+
+    // Whether these bytes could still become a character, or are none.
+    #[tactic(auto, using(crate::proofs::Pending::opens))]
+    pub fn is_open(self) -> bool
+        ensures { result ≡ unfinished (pend_of self) }
+    {
+        let n = self.len();
+        n == 0 || is_begun(n, self.byte(0), self.byte(1), self.byte(2))
+    }
 }

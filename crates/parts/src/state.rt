@@ -1,228 +1,230 @@
 // The machine between two characters, and one character more: it decides on a character when the one behind it has come.
-ghost use Rattle.std.specs.Prelude.{◌≡◌, true, cond, [], ◌∷◌, ◌+◌, ◌≤◌};
+ghost use Rattle.std.specs.Prelude.{◌≡◌, ℕ, true, cond, [], ◌∷◌, ◌+◌, ◌≤◌};
 ghost use Rattle.characters.specs.Utf8.{width};
 ghost use Rattle.text.specs.Answer.{longest};
-ghost use Rattle.lexer.specs.Unicode.{lent};
-ghost use Rattle.feeding.specs.Fed.{held, ended, feed};
+ghost use Rattle.lexer.specs.Unicode.{letters_in};
+ghost use Rattle.locality.specs.Phases.{first};
+ghost use Rattle.feeding.specs.Fed.{words, busy, ended, feed};
 ghost use Rattle.feeding.specs.Lexer.{depth_of, fits, taken};
+ghost use Rattle.feeding.specs.Tracker.{fresh, seen};
 ghost use Rattle.phases.specs.Coded.{phase_of, tracker_of};
-ghost use Rattle.parts.specs.Coded.{state_of};
-ghost use Rattle.parts.specs.Steps.{turned, released, Lastly, Free};
+ghost use Rattle.parts.specs.Coded.{busy_of, state_of};
+ghost use Rattle.parts.specs.Steps.{rec_of, recs_of, len_of, turned, Stepped, released, Lastly, Free};
 
-use phases::tracker::{Tracker, fresh, see, word_by};
-use phases::{Act, Phase, decide, decide_end, first_phase};
+use cutters::RECORD;
+use lexer::Letters;
+use phases::tracker::Tracker;
+use phases::{Act, End, Look, Phase, decide, decide_end, first_phase};
 
-// Nothing has been fed; a token has begun, of which so many bytes are eaten, whose suffix starts there, and of whose underscores this has been seen; the
-// same, and a character behind, which is not yet decided.
+// By which profile and which letters tokens are cut.
+#[derive(Clone, Copy)]
+pub struct Rules<'t> {
+    pub profile: u32,
+    pub letters: Letters<'t>,
+}
+
+// A token that has begun: the state in it, how many of its bytes are eaten, where its suffix starts, and what has been seen of its underscores.
+#[derive(Clone, Copy)]
+pub struct Token {
+    pub phase: Phase,
+    pub eaten: u32,
+    pub mark: u32,
+    pub tracker: Tracker,
+}
+
+// Nothing has been fed; a token has begun; the same, and a character behind, which is not yet decided.
 #[derive(Clone, Copy)]
 pub enum State {
     Idle,
-    Busy(Phase, u32, u32, Tracker),
-    Held(Phase, u32, u32, Tracker, u32),
+    Busy(Token),
+    Held { token: Token, next: u32 },
 }
 
-// The state behind a character and where its token starts, and the record that is handed out, if any: its words, but for where it starts.
+// The state between two characters, and where its token starts.
 #[derive(Clone, Copy)]
-pub struct Turn {
+pub struct Point {
     pub state: State,
     pub begun: u32,
-    pub given: bool,
+}
+
+// The words of a record, but for where its token starts.
+#[derive(Clone, Copy)]
+pub struct Record {
     pub kind: u32,
     pub len: u32,
     pub suffix: u32,
     pub misplaced: u32,
 }
 
+impl Record {
+    #[tactic(auto, unfolding(feeding::specs::Fed::words))]
+    // All five, of a token that starts at `at`.
+    pub fn words(self, at: u32) -> [u32; RECORD]
+        ensures { result ≡ words (rec_of at self ∷ []) }
+    {
+        [self.kind, self.len, self.suffix, at, self.misplaced]
+    }
+}
+
+// What is behind a character, and the record that is handed out, if any.
+#[derive(Clone, Copy)]
+pub struct Turn {
+    pub point: Point,
+    pub given: Option<Record>,
+}
+
 // The bytes of a character; a number that is none stands for one byte.
+#[tactic(auto, unfolding(characters::specs::Utf8::width))]
 pub fn width_of(c: u32) -> u32
     ensures { result ≡ width c }
 {
-    if c < 0x80 {
-        return 1;
-    }
-    if c < 0x800 {
-        return 2;
-    }
-    if c < 0x10000 {
-        return 3;
-    }
-    if c < 1114112 {
-        return 4;
-    }
-    1
-}
-
-fn suffix_at(here: bool, n: u32, m: u32) -> u32
-    ensures { result ≡ cond here n m }
-{
-    if here {
-        return n;
-    }
-    m
-}
-
-// No record is handed out.
-fn none(state: State, begun: u32) -> Turn
-    ensures { turned result begun ≡ ([], (state_of state, begun)) }
-{
-    Turn {
-        state,
-        begun,
-        given: false,
-        kind: 0,
-        len: 0,
-        suffix: 0,
-        misplaced: 0,
+    match c {
+        0..=0x7F => 1,
+        0x80..=0x7FF => 2,
+        0x800..=0xFFFF => 3,
+        0x10000..=0x10FFFF => 4,
+        _ => 1,
     }
 }
 
-// The token that starts at `begun` ends behind n bytes.
-fn end(state: State, begun: u32, n: u32, m: u32, o: Tracker, here: bool, kind: u32) -> Turn
-    requires { begun + n ≤ longest }
-    ensures { turned result begun ≡ (ended begun n m (tracker_of o) here kind ∷ [], (state_of state, begun + n)) }
-{
-    Turn {
-        state,
-        begun: begun + n,
-        given: true,
-        kind,
-        len: n,
-        suffix: suffix_at(here, n, m),
-        misplaced: word_by(o, kind),
+impl Token {
+    // Behind its first character.
+    fn first(c: u32, rules: Rules<'_>) -> Token
+        ensures { busy_of result ≡ busy (first (letters_in rules.entry.letters) rules.entry.profile c) (width c) 0 (fresh c) }
+    {
+        Token {
+            phase: first_phase(c, rules.profile, rules.letters),
+            eaten: width_of(c),
+            mark: 0,
+            tracker: Tracker::fresh(c),
+        }
     }
-}
 
-// x, behind which c stands, is decided.
-fn decide_held(
-    q: Phase,
-    n: u32,
-    m: u32,
-    o: Tracker,
-    x: u32,
-    begun: u32,
-    c: u32,
-    profile: u32,
-    start: &[u32],
-    more: &[u32],
-    emoji: &[u32],
-) -> Turn
-    requires { (depth_of (phase_of q) ≤ n) × (begun + (n + width x) ≤ longest) }
-    ensures { turned result begun ≡ feed (lent start.now more.now emoji.now) profile begun (held (phase_of q) n m (tracker_of o) x) c }
-{
-    let a = decide(q, x, c, start, more, emoji);
-    match a {
-        Act::Eats(b, p) => none(
-            State::Held(p, n + width_of(x), suffix_at(b, n, m), see(o, b, n, x), c),
-            begun,
-        ),
-        Act::Halts(b, k) => {
-            let p = first_phase(x, profile, start, more, emoji);
-            end(
-                State::Held(p, width_of(x), 0, fresh(x), c),
-                begun,
-                n,
-                m,
-                o,
-                b,
-                k,
-            )
+    // Behind x; the suffix starts at x where `suffix` says so.
+    fn eat(self, x: u32, suffix: bool, phase: Phase) -> Token
+        requires { self.eaten + width x ≤ longest }
+        ensures { busy_of result ≡ busy (phase_of phase) (self.eaten + width x) (cond suffix self.eaten self.mark) (seen (tracker_of self.tracker) suffix self.eaten x) }
+    {
+        Token {
+            phase,
+            eaten: self.eaten + width_of(x),
+            mark: if suffix { self.eaten } else { self.mark },
+            tracker: self.tracker.see(suffix, self.eaten, x),
+        }
+    }
+
+    // Its record, where it ends here.
+    fn end(self, end: End) -> Record
+        ensures len { result.len ≡ self.eaten }
+        ensures words { (at : ℕ) → rec_of at result ≡ ended at self.eaten self.mark (tracker_of self.tracker) end.suffix end.kind }
+    {
+        Record {
+            kind: end.kind,
+            len: self.eaten,
+            suffix: if end.suffix { self.eaten } else { self.mark },
+            misplaced: self.tracker.word_by(end.kind),
+        }
+    }
+
+    // x, behind which y stands, is decided: the token behind it, and the record of the one that ended before it, if any.
+    fn step(self, x: u32, y: u32, rules: Rules<'_>) -> (Token, Option<Record>)
+        requires { (depth_of (phase_of self.phase) ≤ self.eaten) × (self.eaten + width x ≤ longest) }
+        ensures { Stepped (letters_in rules.entry.letters) rules.entry.profile self x y result.0 result.1 }
+    {
+        let look = Look {
+            here: x,
+            next: y,
+            letters: rules.letters,
+        };
+        match decide(self.phase, look) {
+            Act::Eats { suffix, phase } => (self.eat(x, suffix, phase), None),
+            Act::Halts(end) => (Token::first(x, rules), Some(self.end(end))),
         }
     }
 }
 
-// One character more.
-pub fn feed_one(
-    s: State,
-    begun: u32,
-    c: u32,
-    profile: u32,
-    start: &[u32],
-    more: &[u32],
-    emoji: &[u32],
-) -> Turn
-    requires { (fits (state_of s) ≡ true) × (begun + taken (state_of s) ≤ longest) }
-    ensures { turned result begun ≡ feed (lent start.now more.now emoji.now) profile begun (state_of s) c }
-{
-    match s {
-        State::Idle => {
-            let p = first_phase(c, profile, start, more, emoji);
-            none(State::Busy(p, width_of(c), 0, fresh(c)), begun)
+impl State {
+    // Whether no comment is deeper than the bytes eaten.
+    pub fn fits(self) -> bool
+        ensures { result ≡ fits (state_of self) }
+    {
+        match self {
+            State::Idle => true,
+            State::Busy(token) | State::Held { token, .. } => token.phase.depth() <= token.eaten,
         }
-        State::Busy(q, n, m, o) => none(State::Held(q, n, m, o, c), begun),
-        State::Held(q, n, m, o, x) => decide_held(
-            q, n, m, o, x, begun, c, profile, start, more, emoji,
-        ),
     }
-}
 
-// At the end of the text: the character that is held is decided, with nothing behind it. A token may end before it.
-fn release_held(
-    q: Phase,
-    n: u32,
-    m: u32,
-    o: Tracker,
-    x: u32,
-    begun: u32,
-    profile: u32,
-    start: &[u32],
-    more: &[u32],
-    emoji: &[u32],
-) -> Turn
-    requires { (depth_of (phase_of q) ≤ n) × (begun + (n + width x) ≤ longest) }
-    ensures { turned result begun ≡ released (lent start.now more.now emoji.now) profile begun (held (phase_of q) n m (tracker_of o) x) }
-{
-    let a = decide(q, x, 0, start, more, emoji);
-    match a {
-        Act::Eats(b, p) => none(
-            State::Busy(p, n + width_of(x), suffix_at(b, n, m), see(o, b, n, x)),
-            begun,
-        ),
-        Act::Halts(b, k) => {
-            let p = first_phase(x, profile, start, more, emoji);
-            end(
-                State::Busy(p, width_of(x), 0, fresh(x)),
-                begun,
-                n,
-                m,
-                o,
-                b,
-                k,
-            )
+    // The bytes of whole characters that were fed and not handed out.
+    pub fn taken(self) -> u64
+        ensures { (result ≡ taken (state_of self)) × (result ≤ 8589934590) }
+    {
+        match self {
+            State::Idle => 0,
+            State::Busy(token) => u64::from(token.eaten),
+            State::Held { token, next } => u64::from(token.eaten) + u64::from(width_of(next)),
         }
     }
 }
 
-pub fn release(
-    s: State,
-    begun: u32,
-    profile: u32,
-    start: &[u32],
-    more: &[u32],
-    emoji: &[u32],
-) -> Turn
-    requires { (fits (state_of s) ≡ true) × (begun + taken (state_of s) ≤ longest) }
-    ensures { turned result begun ≡ released (lent start.now more.now emoji.now) profile begun (state_of s) }
-{
-    match s {
-        State::Held(q, n, m, o, x) => release_held(
-            q, n, m, o, x, begun, profile, start, more, emoji,
-        ),
-        State::Busy(q, n, m, o) => none(State::Busy(q, n, m, o), begun),
-        State::Idle => none(State::Idle, begun),
-    }
-}
-
-// And then the token that has begun ends.
-pub fn last(s: State, begun: u32) -> Turn
-    requires { (Free (state_of s)) × (begun + taken (state_of s) ≤ longest) }
-    ensures { Lastly begun (state_of s) result }
-{
-    match s {
-        State::Busy(q, n, m, o) => {
-            let e = decide_end(q);
-            end(State::Idle, begun, n, m, o, e.bare, e.kind)
+impl Point {
+    // Behind the token of a record, or at the same token, in a state.
+    fn turn(self, state: State, given: Option<Record>) -> Turn
+        requires { self.begun + len_of given ≤ longest }
+        ensures { turned result self.begun ≡ (recs_of self.begun given, (state_of state, self.begun + len_of given)) }
+    {
+        let len = given.map_or(0, |record| record.len);
+        Turn {
+            point: Point {
+                state,
+                begun: self.begun + len,
+            },
+            given,
         }
-        State::Idle => none(State::Idle, begun),
-        State::Held(_, _, _, _, _) => none(State::Idle, begun),
+    }
+
+    // One character more.
+    #[tactic(auto, unfolding(feeding::specs::Fed::feed))]
+    pub fn feed(self, c: u32, rules: Rules<'_>) -> Turn
+        requires { (fits (state_of self.state) ≡ true) × (self.begun + taken (state_of self.state) ≤ longest) }
+        ensures { turned result self.begun ≡ feed (letters_in rules.entry.letters) rules.entry.profile self.begun (state_of self.state) c }
+    {
+        match self.state {
+            State::Idle => self.turn(State::Busy(Token::first(c, rules)), None),
+            State::Busy(token) => self.turn(State::Held { token, next: c }, None),
+            State::Held { token, next } => {
+                let (token, given) = token.step(next, c, rules);
+                self.turn(State::Held { token, next: c }, given)
+            }
+        }
+    }
+
+    // At the end of the text: the character that is held is decided, with nothing behind it. A token may end before it.
+    #[tactic(auto, unfolding(crate::specs::Steps::released))]
+    pub fn release(self, rules: Rules<'_>) -> Turn
+        requires { (fits (state_of self.state) ≡ true) × (self.begun + taken (state_of self.state) ≤ longest) }
+        ensures { turned result self.begun ≡ released (letters_in rules.entry.letters) rules.entry.profile self.begun (state_of self.state) }
+    {
+        match self.state {
+            State::Held { token, next } => {
+                let (token, given) = token.step(next, 0, rules);
+                self.turn(State::Busy(token), given)
+            }
+            state => self.turn(state, None),
+        }
+    }
+
+    // And then the token that has begun ends.
+    #[tactic(auto, unfolding(crate::specs::Steps::lastly))]
+    pub fn last(self) -> Turn
+        requires { (Free (state_of self.state)) × (self.begun + taken (state_of self.state) ≤ longest) }
+        ensures { Lastly self.begun (state_of self.state) result }
+    {
+        match self.state {
+            State::Busy(token) => {
+                let record = token.end(decide_end(token.phase));
+                self.turn(State::Idle, Some(record))
+            }
+            _ => self.turn(State::Idle, None),
+        }
     }
 }

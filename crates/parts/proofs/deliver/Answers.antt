@@ -1,15 +1,8 @@
-use Rattle.parts.proofs.Calling.{pass_ready, accept_ready, stores, deliver_short, deliver_done}
-use borrow.Author.Rules.{rules}
+use Rattle.parts.proofs.Calling.{accept_ready, deliver_stored}
 use Rattle.parts.proofs.deliver.Goals as goal
 
-pub returns-then-need-ne0 : goal.returns-then-need-ne0
-returns-then-need-ne0 c = search (rules, deliver_short)
-
-pub pass-w-requires : goal.pass-w-requires
-pass-w-requires c = pass_ready c.requires.0 c.requires.1 c.unpack-s.ensures (λ w. (c.shortage-need.ensures.enough c.if-need-ne0.false))
-
 pub accept-requires : goal.accept-requires
-accept-requires c = accept_ready c.requires.0 c.requires.1 c.unpack-s.ensures (c.shortage-need.ensures.enough c.if-need-ne0.false) c.pass-w.ensures
+accept-requires c = accept_ready c.requires c.in_ok-check_room.ensures c.go-went.ensures
 
 pub returns : goal.returns
-returns c = deliver_done _ _ _ _ _ _ _ c.shortage-need.ensures c.if-need-ne0.false c.accept.ensures (stores c.requires.0 c.requires.1 c.unpack-s.ensures (c.shortage-need.ensures.enough c.if-need-ne0.false) c.pass-w.ensures)
+returns c = deliver_stored _ _ _ _ _ c.in_ok-check_room.ensures _ _ c.go-went.ensures c.accept.ensures

@@ -1,25 +1,11 @@
-use Prim.Native.Nat.{◌+◌, ◌*◌}
-use native.Mathlib.Omega.{arith}
-use Rattle.parts.proofs.Keeping.{ending_none, ending_more, ending_stop, ending_end}
-use borrow.Author.Rules.{rules}
+use Rattle.parts.proofs.Keeping.{ending_more, ending_stop, ending_end}
 use Rattle.parts.proofs.carry.end_before.Goals as goal
 
-pub loop-i-init : goal.loop-i-init
-loop-i-init c = search (rules, ending_none)
+pub loop-i-preserved : goal.loop-i-preserved
+loop-i-preserved c = ending_more _ _ c.loop-i.invariant c.loop-i-test.true c.if-place-at.false
 
 pub returns-then-place-at : goal.returns-then-place-at
-returns-then-place-at c = search (rules, ending_stop)
+returns-then-place-at c = ending_stop _ _ c.loop-i.invariant c.loop-i-test.true c.if-place-at.true
 
-pub overflow_cast-e-in-loop-i-2 : goal.overflow_cast-e-in-loop-i-2
-overflow_cast-e-in-loop-i-2 c = omega (arith, c.type_inv.list (c.loop-i.i * 5 + 1))
-
-pub overflow_add-e-in-loop-i : goal.overflow_add-e-in-loop-i
-overflow_add-e-in-loop-i c =
-    let i = c.loop-i.i in
-    omega (arith, c.type_inv.list (i * 5 + 1), c.type_inv.list (i * 5 + 3))
-
-pub loop-i-preserved : goal.loop-i-preserved
-loop-i-preserved c = search (rules, ending_more)
-
-pub returns : goal.returns
-returns c = search (rules, ending_end)
+pub returns-after-loop-i : goal.returns-after-loop-i
+returns-after-loop-i c = ending_end _ _ c.loop-i.invariant c.loop-i-test.false

@@ -1,40 +1,17 @@
-use borrow.Author.Rules.{rules}
-use Rattle.parts.specs.Coded.{pend_of}
-use Rattle.parts.specs.Steps.{WholeHead, ShortHead, BadHead}
-use Rattle.parts.proofs.Checking.{is_whole, is_short, is_bad, scans}
+use Rattle.parts.proofs.Checking.{is_bad, scanned_mark, scanned_rest, scanned_bad, scanned_last, scanned_short}
 use Rattle.parts.proofs.check.scan_head.Goals as goal
 
-pub returns-then-is_direction : goal.returns-then-is_direction
-returns-then-is_direction c =
-    let w : WholeHead (pend_of c.args.p) c.args.chunk.now c.in-Whole.code c.in-Whole.from =
-    is_whole _ _ _ c.head_of-h.ensures _ _ c.in-Whole.is in
-    search (rules, scans)
+pub returns-in-Whole : goal.returns-in-Whole
+returns-in-Whole c = scanned_mark c.in-Whole.ensures _ _ c.is_direction.ensures c.requires.2 c.if-is_direction.true c.len.ensures
 
-pub scan_rest-requires : goal.scan_rest-requires
-scan_rest-requires c =
-    let w : WholeHead (pend_of c.args.p) c.args.chunk.now c.in-Whole.code c.in-Whole.from =
-    is_whole _ _ _ c.head_of-h.ensures _ _ c.in-Whole.is in
-    search rules
+pub returns-in-Whole-2 : goal.returns-in-Whole-2
+returns-in-Whole-2 c = scanned_rest c.in-Whole.ensures _ _ c.is_direction.ensures c.requires.2 c.if-is_direction.false _ c.scan_rest.ensures
 
-pub returns-then-last : goal.returns-then-last
-returns-then-last c =
-    let w : ShortHead (pend_of c.args.p) c.args.chunk.now c.in-Short.pend =
-    is_short _ _ _ c.head_of-h.ensures _ c.in-Short.is in
-    search (rules, scans)
+pub returns-in-Short : goal.returns-in-Short
+returns-in-Short c = scanned_short _ _ c.in-Short.ensures c.if-not-last.true
 
-pub returns-else-is_direction : goal.returns-else-is_direction
-returns-else-is_direction c =
-    let w : WholeHead (pend_of c.args.p) c.args.chunk.now c.in-Whole.code c.in-Whole.from =
-    is_whole _ _ _ c.head_of-h.ensures _ _ c.in-Whole.is in
-    search (rules, scans)
+pub returns-in_default : goal.returns-in_default
+returns-in_default c = scanned_last _ _ _ _ c.requires.1 c.len.ensures c.in-Short.ensures c.if-not-last.false
 
-pub returns-else-last : goal.returns-else-last
-returns-else-last c =
-    let w : ShortHead (pend_of c.args.p) c.args.chunk.now c.in-Short.pend =
-    is_short _ _ _ c.head_of-h.ensures _ c.in-Short.is in
-    search (rules, scans)
-
-pub returns-in-Bad : goal.returns-in-Bad
-returns-in-Bad c =
-    let w : BadHead (pend_of c.args.p) c.args.chunk.now = is_bad _ _ _ c.head_of-h.ensures c.in-Bad.is in
-    search (rules, scans)
+pub returns-in_default-2 : goal.returns-in_default-2
+returns-in_default-2 c = scanned_bad _ _ _ _ c.requires.1 c.len.ensures (is_bad _ _ _ c.head.ensures c.in_default.is)

@@ -1,39 +1,60 @@
 use native.Mathlib.Omega.{arith}
 use lib.ListN.{drop}
-use borrow.Author.Rules.{rules}
-use Rattle.parts.proofs.Checking.{Open, rest_within, rest_short, rests}
+use Rattle.parts.proofs.Checking.{Open, rest_within, rest_mark, rest_last, rest_bad, rest_open, rest_end, rest_short, rest_good}
 use Rattle.parts.proofs.check.scan_rest.Goals as goal
-use Rattle.parts.proofs.check.scan_rest.Goals.{else-until-chunk, then-until-chunk+else-d-lt-NO_CHAR+else-last+else-not-is_unfinished}
+use Rattle.parts.proofs.check.scan_rest.Goals.{then-last-via-then-last, then-last-via-else-last+then-not-is_unfinished, then-until-chunk+else-d-lt-NO_CHAR+else-last+else-not-is_unfinished, else-until-chunk}
 
 pub overflow_add-until : goal.overflow_add-until
-overflow_add-until c = omega (arith, rest_within c.args.last c.args.fed c.args.chunk.now c.args.from c.clean_up_to-clean.ensures c.requires.0)
+overflow_add-until c =
+    let a = c.args in
+    omega (arith, rest_within a.last a.fed a.chunk.now a.from c.clean_up_to-clean.ensures c.requires.0)
 
 pub overflow_add-place : goal.overflow_add-place
-overflow_add-place c = omega (arith, rest_within c.args.last c.args.fed c.args.chunk.now c.args.from c.clean_up_to-clean.ensures c.requires.0)
+overflow_add-place c =
+    let a = c.args in
+    omega (arith, rest_within a.last a.fed a.chunk.now a.from c.clean_up_to-clean.ensures c.requires.0)
 
 pub returns-then-d-lt-NO_CHAR : goal.returns-then-d-lt-NO_CHAR
-returns-then-d-lt-NO_CHAR c = search (rules, rests)
+returns-then-d-lt-NO_CHAR c =
+    let a = c.args in
+    rest_mark a.last a.fed a.chunk.now a.from c.clean_up_to-clean.ensures c.decode-d.ensures c.if-until-chunk.true c.if-d-lt-NO_CHAR.true
 
 pub returns-then-last : goal.returns-then-last
-returns-then-last c = search (rules, rests)
+returns-then-last c =
+    let a = c.args in
+    elim c.then-last.branch [
+      | then-last-via-then-last w ↦
+          rest_last a.last a.fed a.chunk.now a.from c.clean_up_to-clean.ensures c.decode-d.ensures c.if-until-chunk.true c.if-d-lt-NO_CHAR.false w.if-last.true
+      | then-last-via-else-last+then-not-is_unfinished w ↦
+          rest_bad a.last a.fed a.chunk.now a.from c.clean_up_to-clean.ensures c.decode-d.ensures c.if-until-chunk.true c.if-d-lt-NO_CHAR.false w.if-last.false w.is_unfinished.ensures w.if-not-is_unfinished.true
+    ]
 
-pub returns-then-not-is_unfinished : goal.returns-then-not-is_unfinished
-returns-then-not-is_unfinished c = search (rules, rests)
+pub slice_bounds-holding-count : goal.slice_bounds-holding-count
+slice_bounds-holding-count c =
+    let a = c.args in
+    rest_within a.last a.fed a.chunk.now a.from c.clean_up_to-clean.ensures c.requires.0
 
-pub slice_bounds-pend_of-count : goal.slice_bounds-pend_of-count
-slice_bounds-pend_of-count c = rest_within c.args.last c.args.fed c.args.chunk.now c.args.from c.clean_up_to-clean.ensures c.requires.0
+pub slice_bounds-holding-start : goal.slice_bounds-holding-start
+slice_bounds-holding-start c =
+    let a = c.args in
+    rest_within a.last a.fed a.chunk.now a.from c.clean_up_to-clean.ensures c.requires.0
 
-pub slice_bounds-pend_of-start : goal.slice_bounds-pend_of-start
-slice_bounds-pend_of-start c = rest_within c.args.last c.args.fed c.args.chunk.now c.args.from c.clean_up_to-clean.ensures c.requires.0
-
-pub pend_of-requires : goal.pend_of-requires
-pend_of-requires c =
-    let o : Open c.args.last (drop c.args.from c.args.chunk.now) c.clean_up_to-clean.result =
-    elim c.if-until-chunk.branch [ then-until-chunk+else-d-lt-NO_CHAR+else-last+else-not-is_unfinished w ↦ search (rules, rests) | else-until-chunk w ↦ search (rules, rests) ] in
-    search (rules, rest_short)
+pub holding-requires : goal.holding-requires
+holding-requires c =
+    let a = c.args in
+    let o : Open a.last (drop a.from a.chunk.now) c.clean_up_to-clean.result =
+    elim c.if-until-chunk.branch [
+      | then-until-chunk+else-d-lt-NO_CHAR+else-last+else-not-is_unfinished w ↦ rest_open a.last a.fed a.chunk.now a.from c.clean_up_to-clean.ensures w.decode-d.ensures w.if-until-chunk.true w.if-d-lt-NO_CHAR.false w.if-last.false w.is_unfinished.ensures w.if-not-is_unfinished.false
+      | else-until-chunk w ↦ rest_end a.last a.fed a.chunk.now a.from c.clean_up_to-clean.ensures c.requires.0 w.if-until-chunk.false
+    ] in
+    rest_short a.last a.fed a.chunk.now a.from c.clean_up_to-clean.ensures o
 
 pub returns : goal.returns
 returns c =
-    let o : Open c.args.last (drop c.args.from c.args.chunk.now) c.clean_up_to-clean.result =
-    elim c.if-until-chunk.branch [ then-until-chunk+else-d-lt-NO_CHAR+else-last+else-not-is_unfinished w ↦ search (rules, rests) | else-until-chunk w ↦ search (rules, rests) ] in
-    search (rules, rests)
+    let a = c.args in
+    let o : Open a.last (drop a.from a.chunk.now) c.clean_up_to-clean.result =
+    elim c.if-until-chunk.branch [
+      | then-until-chunk+else-d-lt-NO_CHAR+else-last+else-not-is_unfinished w ↦ rest_open a.last a.fed a.chunk.now a.from c.clean_up_to-clean.ensures w.decode-d.ensures w.if-until-chunk.true w.if-d-lt-NO_CHAR.false w.if-last.false w.is_unfinished.ensures w.if-not-is_unfinished.false
+      | else-until-chunk w ↦ rest_end a.last a.fed a.chunk.now a.from c.clean_up_to-clean.ensures c.requires.0 w.if-until-chunk.false
+    ] in
+    rest_good a.last a.fed a.chunk.now a.from c.clean_up_to-clean.ensures o c.holding.ensures

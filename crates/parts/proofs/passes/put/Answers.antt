@@ -1,29 +1,22 @@
-use Rattle.parts.proofs.Passing.{handed_words, puttings}
-use lib.ListN.{length-set}
-use native.Mathlib.Omega.{arith}
-use borrow.Author.Rules.{rules}
+use Rattle.parts.proofs.Passing.{put_none, put_room, put_counted, put_stored}
+use mathlib.Core.Path.{◌∙◌}
 use Rattle.parts.proofs.passes.put.Goals as goal
+use Rattle.parts.proofs.passes.put.Goals.{then-write, else-write}
 
-pub returns-then-not-t : goal.returns-then-not-t
-returns-then-not-t c = search (rules, puttings)
+pub returns-in_default : goal.returns-in_default
+returns-in_default c = put_none _ _ _ _ _ c.in_default.is
 
-pub returns-then-not-write : goal.returns-then-not-write
-returns-then-not-write c = search (rules, puttings)
-
-pub bounds-list-k : goal.bounds-list-k
-bounds-list-k c = (omega (arith, c.requires.1 c.if-not-write.false, handed_words c.args.t c.args.at c.if-not-t.false))
-
-pub bounds-list-k-2 : goal.bounds-list-k-2
-bounds-list-k-2 c = simp length-set (omega (arith, c.requires.1 c.if-not-write.false, handed_words c.args.t c.args.at c.if-not-t.false))
-
-pub bounds-list-k-3 : goal.bounds-list-k-3
-bounds-list-k-3 c = simp length-set (omega (arith, c.requires.1 c.if-not-write.false, handed_words c.args.t c.args.at c.if-not-t.false))
-
-pub bounds-list-k-4 : goal.bounds-list-k-4
-bounds-list-k-4 c = simp length-set (omega (arith, c.requires.1 c.if-not-write.false, handed_words c.args.t c.args.at c.if-not-t.false))
-
-pub bounds-list-k-5 : goal.bounds-list-k-5
-bounds-list-k-5 c = simp length-set (omega (arith, c.requires.1 c.if-not-write.false, handed_words c.args.t c.args.at c.if-not-t.false))
+pub slice_bounds-copy_from_slice-end : goal.slice_bounds-copy_from_slice-end
+slice_bounds-copy_from_slice-end c =
+    let a = c.args in
+    put_room a.list.now a.write a.k a.at a.given _ c.in-Some.is c.requires.1 c.if-write.true
 
 pub returns : goal.returns
-returns c = search (rules, puttings)
+returns c =
+    let a = c.args in
+    elim c.if-write.branch [
+      | then-write w ↦
+          let room = put_room a.list.now a.write a.k a.at a.given _ c.in-Some.is c.requires.1 w.if-write.true in
+          rw w.list-is (put_stored a.list.now a.write a.k a.at a.given _ c.in-Some.is w.if-write.true room (w.copy_from_slice.ensures.after ∙ w.words.ensures))
+      | else-write w ↦ rw w.list-is (put_counted a.list.now a.write a.k a.at a.given _ c.in-Some.is w.if-write.false)
+    ]
