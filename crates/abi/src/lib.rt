@@ -25,9 +25,9 @@ use listing::tokenize;
 use parts::{Fed, Lexer};
 use renewal::renewal_key;
 use rows::{Token, tokenize_rows};
-use same::{Comparison, Place, compare, place_of};
+use same::{ComparisonAnswer, Place, compare, place_of};
 use text::{Answer, check_cut, check_text, default_profile};
-use unescape::{unescape_literal, unescape_part};
+use unescape::{outcome, unescape_literal, unescape_part};
 
 // ---- tokens
 #[unsafe(no_mangle)]
@@ -131,10 +131,10 @@ pub extern "C" fn oq3_renewal_key(text: &[u8], profile: u32, key: &mut [u8]) -> 
 
 // ---- two texts compared
 #[unsafe(no_mangle)]
-pub extern "C" fn oq3_compare(old: &[u8], new: &[u8], profile: u32) -> Comparison
+pub extern "C" fn oq3_compare(old: &[u8], new: &[u8], profile: u32) -> ComparisonAnswer
     ensures { Compared (compared profile old.now new.now) result.verdict result.refusal.number result.refusal.also result.agreed result.old.kind result.old.start result.old.len result.new.kind result.new.start result.new.len }
 {
-    compare(old, new, profile)
+    ComparisonAnswer::from(compare(old, new, profile))
 }
 
 #[unsafe(no_mangle)]
@@ -169,14 +169,14 @@ pub extern "C" fn oq3_unescape_part(
 pub extern "C" fn oq3_unescape_char(text: &[u8]) -> Answer
     ensures { Answered (single false text.now) result.number result.also }
 {
-    unescape::unescape_char(text)
+    Answer::from(unescape::unescape_char(text).map(|read| outcome(read) as usize))
 }
 
 #[unsafe(no_mangle)]
 pub extern "C" fn oq3_unescape_byte(text: &[u8]) -> Answer
     ensures { Answered (single true text.now) result.number result.also }
 {
-    unescape::unescape_byte(text)
+    Answer::from(unescape::unescape_byte(text).map(|read| outcome(read) as usize))
 }
 
 #[unsafe(no_mangle)]

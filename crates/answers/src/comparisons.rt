@@ -2,15 +2,15 @@
 // kind, start and length of what stands behind those in each text.
 use crate::output::Result;
 use crate::words::{TEXT, Words, bytes, number};
-use same::{Comparison, Sight};
+use same::{ComparisonAnswer, SightAnswer};
 use std::io;
 
-fn print_sight(rt: &impl Print, sight: Sight) -> io::Result<()> {
-    let Sight { kind, start, len } = sight;
+fn print_sight(rt: &impl Print, sight: SightAnswer) -> io::Result<()> {
+    let SightAnswer { kind, start, len } = sight;
     print!(rt; " {kind},{start},{len}")
 }
 
-fn print_comparison(rt: &impl Print, given: Comparison) -> io::Result<()> {
+fn print_comparison(rt: &impl Print, given: ComparisonAnswer) -> io::Result<()> {
     let verdict = given.verdict;
     let number = given.refusal.number;
     let also = given.refusal.also;
@@ -26,6 +26,7 @@ pub fn answer(rt: &impl Print, mut words: Words<'_>) -> Result<()> {
     let profile = number(words.word())?;
     let old = bytes(words.word(), &mut old)?;
     let new = bytes(words.rest(), &mut new)?;
-    print_comparison(rt, same::compare(old, new, profile))?;
+    let given = same::compare(old, new, profile);
+    print_comparison(rt, ComparisonAnswer::from(given))?;
     Ok(())
 }

@@ -1,5 +1,6 @@
 // The tasks on a text alone.
 use text::{Refusal, check_text};
+use unescape::{outcome, unescape_byte, unescape_char};
 
 // The place moves by a character's width, so that there is no `for`.
 fn characters(text: &[u8]) -> usize {
@@ -16,4 +17,13 @@ fn characters(text: &[u8]) -> usize {
 pub fn utf8(text: &[u8]) -> Result<usize, Refusal> {
     check_text(text)?;
     Ok(characters(text))
+}
+
+// char, byte: what the text stands for, or the refusal.
+pub fn char(text: &[u8]) -> Result<usize, Refusal> {
+    Ok(outcome(unescape_char(text)?) as usize)
+}
+
+pub fn byte(text: &[u8]) -> Result<usize, Refusal> {
+    Ok(outcome(unescape_byte(text)?) as usize)
 }

@@ -19,12 +19,12 @@ mod kinds;
 ghost use Rattle.std.specs.Prelude.{◌≤◌, length};
 
 use kinds::Name;
-use same::{Comparison, Place, Sight};
+use same::{Agreement, Comparison, Place, Sight};
 use std::env::FillError;
 use std::io::{Error, Read};
 use std::rt::{Env, Files};
 use std::{fs, io};
-use text::Answer;
+use text::{Answer, Refusal};
 
 // The most bytes of a file: the program's own limit. Both files stand on the stack.
 const MOST: usize = 1048576;
@@ -71,32 +71,37 @@ fn print_sight(rt: &impl Print, label: &str, text: &[u8], sight: Sight) -> io::R
         return print!(rt; ", {label} end");
     }
     let name = Name(kind);
+    let kind = kind.number();
     print!(rt; ", {label} kind {kind} ({name}) start {start} length {len}")?;
     print_place(rt, text, start)
 }
 
-fn print_refusal(rt: &impl Print, name: &[u8], given: Answer) -> io::Result<()> {
-    let Answer { number, also } = given;
+fn print_refusal(rt: &impl Print, name: &[u8], refusal: Refusal) -> io::Result<()> {
+    let Answer { number, also } = Answer::from(Err::<usize, _>(refusal));
     print!(rt; "refused {number} {also} ")?;
     rt.write_all(name)?;
     println!(rt)
 }
 
-fn print_difference(rt: &impl Print, old: &[u8], new: &[u8], c: Comparison) -> io::Result<()> {
-    let number = c.agreed.saturating_add(1);
+fn print_difference(rt: &impl Print, old: &[u8], new: &[u8], a: Agreement) -> io::Result<()> {
+    let number = a.agreed.saturating_add(1);
     print!(rt; "different\ntoken {number}")?;
-    print_sight(rt, "old", old, c.old)?;
-    print_sight(rt, "new", new, c.new)?;
+    print_sight(rt, "old", old, a.old)?;
+    print_sight(rt, "new", new, a.new)?;
     println!(rt)
 }
 
-fn print_comparison(rt: &impl Print, profile: u32, old: Input<'_>, new: Input<'_>) -> io::Result<()> {
-    let c = same::compare(old.text, new.text, profile);
-    match c.verdict {
-        same::SAME => println!(rt; "same"),
-        same::OLD_REFUSED => print_refusal(rt, old.name, c.refusal),
-        same::NEW_REFUSED => print_refusal(rt, new.name, c.refusal),
-        _ => print_difference(rt, old.text, new.text, c),
+fn print_comparison(
+    rt: &impl Print,
+    profile: u32,
+    old: Input<'_>,
+    new: Input<'_>,
+) -> io::Result<()> {
+    match same::compare(old.text, new.text, profile) {
+        Comparison::Same(_) => println!(rt; "same"),
+        Comparison::Different(a) => print_difference(rt, old.text, new.text, a),
+        Comparison::OldRefused(refusal) => print_refusal(rt, old.name, refusal),
+        Comparison::NewRefused(refusal) => print_refusal(rt, new.name, refusal),
     }
 }
 
@@ -196,11 +201,9 @@ fn tell(rt: &HostRuntime, trouble: Trouble<'_>) -> io::Result<()> {
 
 // Goes on where the words behind the two names, the first of which is lent, ask for a profile that is known.
 fn run(rt: &HostRuntime, words: usize, first: &[u8]) -> io::Result<()> {
-    let checked = arguments::check_asked(words, first);
-    if checked.number != text::DONE {
+    let Ok(profile) = arguments::check_asked(words, first) else {
         return eprintln!(rt; "oqsame: the profile, behind the two names, must be 0 or 1");
-    }
-    let profile = arguments::profile_asked(words, first);
+    };
     let mut old_name = [0u8; NAME];
     let mut old = [0u8; MOST];
     let mut new_name = [0u8; NAME];
