@@ -4,12 +4,13 @@ use Prim.Native.Nat.{ℕ, suc, ◌+◌, ◌-◌, ◌*◌, ◌^◌, ◌≤◌, �
 use native.Mathlib.Omega.{arith}
 use native.Mathlib.Nat.{pow-suc, pow-le-pow_right}
 use mathlib.Core.Path.{◌≡◌, refl}
-use mathlib.Core.Bool.{true, false, false≢true}
+use mathlib.Core.Bool.{true, false, cond, false≢true}
 use lib.Dec.{eqb, ltb}
 use borrow.Author.Tests.{lt-leb, lt-ltb, le-ltb, ltb-true, ltb-false, ne_eqb}
-use Rattle.std.specs.Prelude.{Option}
+use Rattle.std.specs.Prelude.{Option, Some, None, IfSome}
 use Rattle.std.specs.Bool.{then_some}
-use Rattle.unescape.specs.Steps.{is_digit}
+use Rattle.unescape.specs.declared.escapes.Digits.{Digits}
+use Rattle.unescape.specs.Steps.{is_digit, with_digit}
 use Rattle.lists.proofs.Bools.{by_test, and_false}
 use Rattle.characters.specs.Ranges.{◌to◌, in_range}
 use Rattle.characters.proofs.Rows.{in_range_lem}
@@ -89,25 +90,35 @@ small_digit n v d s h k =
 
 -- ---- what a character behind the first digit does
 -- no underscore is a digit, and what is neither is not eaten
-pub not_underscore : (c : ℕ) {d : ℕ} → d ≡ to_digit c → d < 16 → eqb c 0x5F ≡ false
+not_underscore : (c : ℕ) {d : ℕ} → d ≡ to_digit c → d < 16 → eqb c 0x5F ≡ false
 unfolding to_digit
 not_underscore c e l = ne_eqb c 0x5F (λ h. omega (arith, rw h at e))
 
-pub underscore : (c : ℕ) → 16 ≡ to_digit c → or_underscore c ≡ true → eqb c 0x5F ≡ true
+underscore : (c : ℕ) → 16 ≡ to_digit c → or_underscore c ≡ true → eqb c 0x5F ≡ true
 underscore c e h = by_test (eqb c 0x5F) (λ k. k) (λ k. absurd (false≢true (rw (k, ← e) at h)))
 
-pub small_on : (c : ℕ) {n v : ℕ} → Small n v → or_underscore c ≡ true → Small (count_digit n c) (valued n v c)
-small_on c {n} {v} s g =
-    by_test (eqb c 0x5F) (λ h. rw h s)
-    (λ h.
-    by_test (ltb n 6)
-    (λ k. rw (h, k) (small_digit n v (to_digit c) s (ltb-true n 6 k) (ltb-true (to_digit c) 16 (rw h at g))))
+-- with a digit more, or none
+pub digit_adds : (c : ℕ) (x : Digits) (d : Option ℕ) → is_digit c d → or_underscore c ≡ true → ((with_digit x d).count, (with_digit x d).value) ≡ add_digit (x.count, x.value) c
+digit_adds c x None i h = rw (underscore c i h)
+digit_adds c x (Some d) i h = rw (not_underscore c i.0 i.1, ← i.0)
+
+pub small_on : (c : ℕ) (x : Digits) (d : Option ℕ) → is_digit c d → Small x.count x.value → Small (with_digit x d).count (with_digit x d).value
+small_on c x None i s = s
+small_on c x (Some d) i s =
+    by_test (ltb x.count 6) (λ k. rw k (small_digit x.count x.value d s (ltb-true x.count 6 k) i.1))
     (λ k.
-    let l = ltb-false n 6 k in
-    let i : min n 6 ≡ 6 = omega arith in
-    let j : min (n + 1) 6 ≡ 6 = omega arith in
-    rw (h, k) (record { below = rw j (rw i at s.below) })))
+    let l = ltb-false x.count 6 k in
+    let e : min x.count 6 ≡ 6 = omega arith in
+    let f : min (x.count + 1) 6 ≡ 6 = omega arith in
+    rw k (record { below = rw f (rw e at s.below) }))
+
+-- what is asked of it
+pub room_on : (c : ℕ) (x : Digits) (d : Option ℕ) → is_digit c d → Small x.count x.value → x.count < 18446744073709551615 →
+    IfSome d (λ v. (v < 16) × (x.count < 18446744073709551615) × (x.count < 6 → x.value < 1048576))
+room_on c x None i s l = tt
+room_on c x (Some d) i s l = (i.1, l, small_cap s)
 
 -- no more digits than bytes
-pub count_few : (c at : ℕ) {n : ℕ} → n ≤ at + 1 → count_digit n c ≤ at + 1 + 1
-count_few c at h = by_test (eqb c 0x5F) (λ k. rw k (omega arith)) (λ k. rw k (omega arith))
+pub count_few : (at : ℕ) (x : Digits) (d : Option ℕ) → x.count ≤ at + 1 → (with_digit x d).count ≤ at + 1 + 1
+count_few at x None h = omega (arith, h)
+count_few at x (Some d) h = omega (arith, h)

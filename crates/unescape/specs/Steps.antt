@@ -1,10 +1,11 @@
 -- What the unescaper's own functions answer, by the places that they reach.
 -- Assumes nothing.
-use Rattle.std.specs.Prelude.{ℕ, ◌/◌, ◌≤◌, ◌<◌, ◌≡◌, Bool, cond, ltb, List, [], ◌∷◌, ◌++◌, length, Option, Some, None, IfSome, MatchOption, Result, Ok, Err}
+use Rattle.std.specs.Prelude.{ℕ, ◌+◌, ◌*◌, ◌/◌, ◌≤◌, ◌<◌, ◌≡◌, Bool, cond, ltb, List, [], ◌∷◌, ◌++◌, length, Option, Some, None, IfSome, MatchOption, Result, Ok, Err}
 use Rattle.std.proofs.lemmas.List.Edits.{sets}
 use Rattle.characters.specs.Steps.{Place, Ate}
 use Rattle.characters.specs.Text.{left}
 use Rattle.text.specs.Steps.{Stored}
+use Rattle.unescape.specs.declared.escapes.Digits.{Digits}
 use Rattle.unescape.specs.declared.bodies.Step.{Step}
 use Rattle.modes.specs.declared.Mode.{Mode}
 use Rattle.modes.specs.declared.errors.EscapeError.{EscapeError}
@@ -27,6 +28,11 @@ ascii_only m = characters_should_be_ascii (mode_number m)
 -- the value of a digit; none of any other character
 abbrev pub is_digit : ℕ → Option ℕ → Type 0
 is_digit c r = MatchOption r (16 ≡ to_digit c) (λ d. (d ≡ to_digit c) × (d < 16))
+
+-- the digits of \u{..} with one more, or none: how many there are, and the value of the first six
+abbrev pub with_digit : Digits → Option ℕ → Digits
+with_digit x None = x
+with_digit x (Some d) = record { count = x.count + 1; value = cond (ltb x.count 6) (x.value * 16 + d) x.value }
 
 -- a scanner that began at a place of s and ended at a place of s', by the definition that it follows
 pub record Scanned (f : List ℕ → Outcome × List ℕ) (s : List ℕ) (at : ℕ) (r : Result ℕ EscapeError) (s' : List ℕ) (end : ℕ) : Type 0 where

@@ -1,7 +1,7 @@
 // Escapes: what stands behind a backslash.
-ghost use Rattle.std.specs.Prelude.{◌≡◌, true, ◌<◌, IfOk};
-ghost use Rattle.unescape.specs.Escapes.{to_digit, hex_digit, hex_escape, first_digit, or_underscore, count_digit, valued, add_digit, code_point, closing, braced, unicode_escape, simple, escape, ascii_check};
-ghost use Rattle.unescape.specs.Steps.{outcome_of, ascii_only, is_digit, Scanned, AteOn};
+ghost use Rattle.std.specs.Prelude.{◌≡◌, ◌<◌, IfSome, IfOk};
+ghost use Rattle.unescape.specs.Escapes.{to_digit, hex_digit, hex_escape, first_digit, or_underscore, add_digit, code_point, closing, braced, unicode_escape, simple, escape, ascii_check};
+ghost use Rattle.unescape.specs.Steps.{outcome_of, ascii_only, is_digit, with_digit, Scanned, AteOn};
 
 use crate::chars::Chars;
 use modes::{EscapeError, Mode};
@@ -15,6 +15,7 @@ struct Digits {
 
 // The value of a hexadecimal digit, by its range. All three are asked, so that no jump depends on the digit, which cannot be guessed; so the value
 // of what is no digit is 16 until then.
+#[inline(always)]
 fn to_digit(c: u32) -> Option<u32>
     ensures { is_digit c result }
 {
@@ -89,16 +90,20 @@ fn first_digit(chars: &mut Chars<'_>) -> Result<u32, EscapeError>
 }
 
 impl Digits {
-    // With one character more, a digit or an underscore. From the seventh digit on the value is no longer asked for, and so it stays below 2^24.
-    fn and(self, c: u32, digit: Option<u32>) -> Digits
-        requires { (is_digit c digit) × (or_underscore c ≡ true) × (self.count < 18446744073709551615) × (self.count < 6 → self.value < 1048576) }
-        ensures { result ≡ record { count = count_digit self.count c; value = valued self.count self.value c } }
+    // With one digit more, or none. From the seventh on the value is no longer asked for, and so it stays below 2^24.
+    fn and(self, digit: Option<u32>) -> Digits
+        requires { IfSome digit (λ d. (d < 16) × (self.count < 18446744073709551615) × (self.count < 6 → self.value < 1048576)) }
+        ensures { result ≡ with_digit self digit }
     {
+        let Some(digit) = digit else {
+            return self;
+        };
         Digits {
-            count: self.count + usize::from(c != 0x5F),
-            value: match digit {
-                Some(digit) if self.count < 6 => self.value * 16 + digit,
-                _ => self.value,
+            count: self.count + 1,
+            value: if self.count < 6 {
+                self.value * 16 + digit
+            } else {
+                self.value
             },
         }
     }
@@ -109,7 +114,7 @@ fn is_digit_or_underscore(c: u32, digit: Option<u32>) -> bool
     requires { is_digit c digit }
     ensures { result ≡ or_underscore c }
 {
-    c == 0x5F || digit.is_some()
+    digit.is_some() || c == 0x5F
 }
 
 // Behind a first digit, byte by byte: only ASCII is a digit. No text has so many that the count wraps.
@@ -128,7 +133,7 @@ fn more_digits(chars: &mut Chars<'_>, first: u32) -> Digits
             chars.at += i;
             return digits;
         }
-        digits = digits.and(c, digit);
+        digits = digits.and(digit);
     }
     chars.at = chars.text.len();
     digits
@@ -167,6 +172,7 @@ fn closing_brace(
 }
 
 // Behind `\u{`.
+#[inline(always)]
 fn scan_braced(chars: &mut Chars<'_>, mode: Mode) -> Result<u32, EscapeError>
     ensures { Scanned (braced (ascii_only mode)) chars.old.text.now chars.old.at result chars.new.text.now chars.new.at }
 {
