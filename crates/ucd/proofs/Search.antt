@@ -3,7 +3,7 @@
 use mathlib.Core.Path.{◌≡◌, refl, sym, ◌∙◌}
 use mathlib.Core.Bool.{Bool, true, false, ◌&&◌, ◌||◌}
 use mathlib.Core.List.{List, [], ◌∷◌}
-use Prim.Native.Nat.{ℕ, zero, suc, ◌+◌, ◌-◌, ◌*◌, ◌/◌, ◌≤◌, ◌<◌}
+use Prim.Native.Nat.{ℕ, zero, suc, ◌+◌, ◌-◌, ◌*◌, ◌/◌, ◌^◌, ◌≤◌, ◌<◌}
 use native.Mathlib.Decide.{dec_lt, ℕ_discrete}
 use native.Mathlib.Omega.{arith}
 use lib.Dec.{leb, ltb}
@@ -86,8 +86,17 @@ module _ {t : List ℕ} {c base₀ size₀ base size : ℕ} (s : Searching t c b
   pub searching_end : size ≤ 1 → base ≡ narrowed size₀ t c base₀ size₀
   searching_end h = let e : size ≡ 1 = omega (arith, s.some) in sym (one t c size base) ∙ (rw (← e)) ∙ s.same
 
-pub half_most : (k : ℕ) {n m : ℕ} → n ≤ 2 * k → m ≡ n - n / 2 → m ≤ k
+half_most : (k : ℕ) {n m : ℕ} → n ≤ 2 * k → m ≡ n - n / 2 → m ≤ k
 half_most k h e = omega arith
+
+-- five steps leave one of 32 ranges
+pub half_of : (k : ℕ) {n m : ℕ} → k < 5 → n ≤ 2 ^ (5 - k) → m ≡ n - n / 2 → m ≤ 2 ^ (5 - (k + 1))
+half_of zero h l e = half_most 16 l e
+half_of (suc zero) h l e = half_most 8 l e
+half_of (suc (suc zero)) h l e = half_most 4 l e
+half_of (suc (suc (suc zero))) h l e = half_most 2 l e
+half_of (suc (suc (suc (suc zero)))) h l e = half_most 1 l e
+half_of (suc (suc (suc (suc (suc k))))) h l e = absurd (omega arith)
 
 among_most : (t : List ℕ) (c : ℕ) → 2 * among t c ≤ length t
 among_most t c =

@@ -30,18 +30,17 @@ fn narrow(table: &[u32], c: u32, p: Part) -> Part
     Part { base, size }
 }
 
-// Where the search ends among at most 32 ranges: on a table in order, at the last that does not begin above c, or at the first. Five steps written
-// out compile to conditional moves; in a loop each would be a jump that c decides.
+// Where the search ends among at most 32 ranges: on a table in order, at the last that does not begin above c, or at the first. Five steps, whatever is
+// left, so that they compile to conditional moves: where the loop asked for more than one range, each would be a jump.
 fn last_of(table: &[u32], c: u32, p: Part) -> usize
     requires { (1 ≤ p.size) × (p.size ≤ 32) × (2 * (p.base + p.size) ≤ length table.now) }
     ensures { result ≡ narrowed p.size table.now c p.base p.size }
 {
-    let p1 = narrow(table, c, p);
-    let p2 = narrow(table, c, p1);
-    let p3 = narrow(table, c, p2);
-    let p4 = narrow(table, c, p3);
-    let p5 = narrow(table, c, p4);
-    p5.base
+    let mut p = p;
+    for _step in 0..5usize {
+        p = narrow(table, c, p);
+    }
+    p.base
 }
 
 // A binary search: on a table in order, whether c lies in one of its ranges.
