@@ -118,6 +118,7 @@ fn is_digit_or_underscore(c: u32, digit: Option<u32>) -> bool
 }
 
 // Behind a first digit, byte by byte: only ASCII is a digit. No text has so many that the count wraps.
+#[inline(always)]
 fn more_digits(chars: &mut Chars<'_>, first: u32) -> Digits
     requires { first < 16 }
     ensures { AteOn or_underscore add_digit chars.old.text.now chars.old.at (1, first) chars.new.text.now chars.new.at (result.count, result.value) }
@@ -158,6 +159,7 @@ fn code_point(digits: Digits, mode: Mode) -> Result<u32, EscapeError>
 }
 
 // Behind the digits of `\u{..}`.
+#[inline(always)]
 fn closing_brace(
     chars: &mut Chars<'_>,
     digits: Digits,
