@@ -1,11 +1,12 @@
 -- What the states and the acts of the code mean.
 -- Assumes nothing.
-use Rattle.std.specs.Prelude.{ℕ, ◌≡◌, Bool, false, cond, Option, None, Some, List, [], ltb}
+use Rattle.std.specs.Prelude.{ℕ, ◌≡◌, Bool, false, not, cond, Option, None, Some, List, [], eqb, ltb}
 use Rattle.std.specs.Int.NonZero.{non_zero_u32_get}
 use Rattle.std.specs.declared.num.NonZeroU32.{NonZeroU32}
 use Rattle.cutters.specs.Numbers.{base_number}
 use Rattle.cutters.specs.declared.kinds.Base as B
-use Rattle.lexer.specs.Cut.{Letters}
+use Rattle.cutters.specs.Kinds.{marks, mark_in, unknown}
+use Rattle.lexer.specs.Cut.{Letters, wide_emoji}
 use Rattle.lexer.specs.Unicode.{letters_in}
 use Rattle.locality.specs.Machine as M
 use Rattle.locality.specs.Phases as P
@@ -63,6 +64,15 @@ phase_of (X.Single k) = P.single k
 abbrev pub act_of : A.Act → M.Act P.Phase
 act_of (Y.Eats b q) = M.eats b (phase_of q)
 act_of (Y.Halts e) = M.halts e.suffix e.kind
+
+-- the state behind a first character, from the single marks on
+abbrev pub late : Letters → ℕ → P.Phase
+late u c =
+    let m = mark_in marks c in
+    cond (not (eqb m 0)) (P.single m)
+    (cond (eqb c 0x22) (P.quote false (P.bits false false))
+    (cond (wide_emoji u.emoji c) P.emoji_name
+    (P.single unknown)))
 
 -- the letters that are lent beside the characters that a state looks at
 abbrev pub lent_to : N.Look → Letters

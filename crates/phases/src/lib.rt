@@ -2,12 +2,13 @@
 #![tactic(auto)]
 
 ghost use Rattle.std.specs.Prelude.{◌≡◌, true, false, [], ◌∷◌};
+ghost use Rattle.cutters.specs.Kinds.{int, float};
 ghost use Rattle.cutters.specs.Numbers.{kind_number};
 ghost use Rattle.lexer.specs.Unicode.{letters_in};
 ghost use Rattle.locality.specs.Machine.{eats, halts};
 ghost use Rattle.locality.specs.Phases.{first};
 ghost use Rattle.feeding.specs.Lexer.{depth_of};
-ghost use Rattle.phases.specs.Coded.{phase_of, act_of, lent_to, act_in, EndsWith};
+ghost use Rattle.phases.specs.Coded.{base_of, phase_of, act_of, lent_to, late, act_in, EndsWith};
 
 pub mod codec;
 mod lines;
@@ -123,6 +124,23 @@ impl End {
             kind: kind.number(),
         }
     }
+
+    fn int(base: Base, empty_int: bool) -> End
+        ensures suffix { result.suffix ≡ true }
+        ensures kind { result.kind ≡ int (base_of base) empty_int }
+    {
+        End::literal(Kind::Int { base, empty_int })
+    }
+
+    fn float(base: Base, empty_exponent: bool) -> End
+        ensures suffix { result.suffix ≡ true }
+        ensures kind { result.kind ≡ float (base_of base) empty_exponent }
+    {
+        End::literal(Kind::Float {
+            base,
+            empty_exponent,
+        })
+    }
 }
 
 impl Act {
@@ -142,35 +160,10 @@ impl Act {
     }
 }
 
-// The state behind the first character of a token.
-#[tactic(auto, unfolding(locality::specs::Phases::first))]
-pub fn first_phase(c: u32, profile: u32, letters: Letters<'_>) -> Phase
-    ensures { phase_of result ≡ first (letters_in letters.entry) profile c }
+// Behind a first character that no test before these takes.
+fn late_phase(c: u32, letters: Letters<'_>) -> Phase
+    ensures { phase_of result ≡ late (letters_in letters.entry) c }
 {
-    if c == 0x2F {
-        return Phase::BehindSlash;
-    }
-    if is_whitespace(c) {
-        return Phase::Space;
-    }
-    if letters.is_id_start(c) {
-        return word_phase(profile, c);
-    }
-    if is_digit(c) {
-        return digit_phase(c);
-    }
-    if c == 0x23 {
-        return Phase::Spelling {
-            bare: false,
-            spelt: 0,
-        };
-    }
-    if c == 0x40 {
-        return Phase::BehindAt;
-    }
-    if c == 0x24 {
-        return Phase::BehindDollar;
-    }
     if let Some(mark) = mark_of(c) {
         return Phase::Single {
             kind: mark.number(),
@@ -190,6 +183,26 @@ pub fn first_phase(c: u32, profile: u32, letters: Letters<'_>) -> Phase
     }
     Phase::Single {
         kind: Kind::Unknown.number(),
+    }
+}
+
+// The state behind the first character of a token.
+#[tactic(auto, unfolding(locality::specs::Phases::first))]
+pub fn first_phase(c: u32, profile: u32, letters: Letters<'_>) -> Phase
+    ensures { phase_of result ≡ first (letters_in letters.entry) profile c }
+{
+    match c {
+        0x2F => Phase::BehindSlash,
+        _ if is_whitespace(c) => Phase::Space,
+        _ if letters.is_id_start(c) => word_phase(profile, c),
+        _ if is_digit(c) => digit_phase(c),
+        0x23 => Phase::Spelling {
+            bare: false,
+            spelt: 0,
+        },
+        0x40 => Phase::BehindAt,
+        0x24 => Phase::BehindDollar,
+        _ => late_phase(c, letters),
     }
 }
 
@@ -247,26 +260,11 @@ pub fn decide_end(phase: Phase) -> End
         Phase::BehindAt => End::plain(Kind::At),
         Phase::BehindDollar => End::plain(Kind::Dollar),
         Phase::Wire { any } => End::plain(wire_kind(any)),
-        Phase::ZeroFirst => End::literal(Kind::Int {
-            base: Base::Decimal,
-            empty_int: false,
-        }),
-        Phase::Figures { base, any } => End::literal(Kind::Int {
-            base,
-            empty_int: !any,
-        }),
-        Phase::Pointed(base) | Phase::Decimals(base) => End::literal(Kind::Float {
-            base,
-            empty_exponent: false,
-        }),
-        Phase::BehindE(base) => End::literal(Kind::Float {
-            base,
-            empty_exponent: true,
-        }),
-        Phase::Power { base, any } => End::literal(Kind::Float {
-            base,
-            empty_exponent: !any,
-        }),
+        Phase::ZeroFirst => End::int(Base::Decimal, false),
+        Phase::Figures { base, any } => End::int(base, !any),
+        Phase::Pointed(base) | Phase::Decimals(base) => End::float(base, false),
+        Phase::BehindE(base) => End::float(base, true),
+        Phase::Power { base, any } => End::float(base, !any),
         Phase::Quote { seen, .. } => End::literal(seen_kind(false, seen)),
         Phase::QuoteClosed { kind } => End { suffix: true, kind },
         Phase::Suffixed { kind } | Phase::Single { kind } => End {

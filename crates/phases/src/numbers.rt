@@ -2,14 +2,12 @@
 #![tactic(auto, unfolding(locality::specs::Phases::act))]
 
 ghost use Rattle.std.specs.Prelude.{◌≡◌, true, false, cond, [], ◌∷◌, eqb};
-ghost use Rattle.cutters.specs.Kinds.{float};
-ghost use Rattle.cutters.specs.Numbers.{kind_number};
 ghost use Rattle.locality.specs.Phases.{zero_first, figures, pointed, decimals, behind_e, suffixed, suffix_acts, number_ends, fraction_acts, figure_acts, power_acts, act};
 ghost use Rattle.phases.specs.Coded.{base_of, phase_of, act_of, lent_to};
 
 use crate::tests::{is_figure_or_underscore, met_figure};
 use crate::{Act, End, Look, Phase};
-use cutters::{Base, Kind};
+use cutters::Base;
 use lexer::{is_digit, is_e, is_sign, is_unit};
 
 // Behind a first digit.
@@ -51,13 +49,14 @@ pub fn suffixed_acts(kind: u32, look: Look<'_>) -> Act
 }
 
 // Where a number ends: a unit is no suffix.
-fn number_ends(kind: Kind, look: Look<'_>) -> Act
-    ensures { act_of result ≡ number_ends (lent_to look.entry) (kind_number kind) (look.entry.here ∷ look.entry.next ∷ []) }
+fn number_ends(end: End, look: Look<'_>) -> Act
+    requires { end.suffix ≡ true }
+    ensures { act_of result ≡ number_ends (lent_to look.entry) end.kind (look.entry.here ∷ look.entry.next ∷ []) }
 {
     if is_unit(look.here, look.next) {
-        return Act::Halts(End::literal(kind));
+        return Act::Halts(end);
     }
-    suffix_acts(kind.number(), look)
+    suffix_acts(end.kind, look)
 }
 
 // Behind digits.
@@ -70,11 +69,7 @@ fn fraction_acts(base: Base, look: Look<'_>) -> Act
     if is_e(look.here) {
         return Act::eat(Phase::BehindE(base));
     }
-    let kind = Kind::Int {
-        base,
-        empty_int: false,
-    };
-    number_ends(kind, look)
+    number_ends(End::int(base, false), look)
 }
 
 pub fn figure_acts(base: Base, any: bool, look: Look<'_>) -> Act
@@ -89,11 +84,7 @@ pub fn figure_acts(base: Base, any: bool, look: Look<'_>) -> Act
     if any {
         return fraction_acts(base, look);
     }
-    let kind = Kind::Int {
-        base,
-        empty_int: true,
-    };
-    number_ends(kind, look)
+    number_ends(End::int(base, true), look)
 }
 
 // Behind a first 0.
@@ -109,16 +100,6 @@ pub fn zero_acts(look: Look<'_>) -> Act
     Act::eat(Phase::Figures { base, any: false })
 }
 
-fn float_ends(base: Base, empty_exponent: bool, look: Look<'_>) -> Act
-    ensures { act_of result ≡ number_ends (lent_to look.entry) (float (base_of base) empty_exponent) (look.entry.here ∷ look.entry.next ∷ []) }
-{
-    let kind = Kind::Float {
-        base,
-        empty_exponent,
-    };
-    number_ends(kind, look)
-}
-
 // Behind a point.
 pub fn pointed_acts(base: Base, look: Look<'_>) -> Act
     ensures { act_of result ≡ act (lent_to look.entry) (pointed (base_of base)) (look.entry.here ∷ look.entry.next ∷ []) }
@@ -126,7 +107,7 @@ pub fn pointed_acts(base: Base, look: Look<'_>) -> Act
     if is_digit(look.here) {
         return Act::eat(Phase::Decimals(base));
     }
-    float_ends(base, false, look)
+    number_ends(End::float(base, false), look)
 }
 
 // In the digits behind it.
@@ -139,7 +120,7 @@ pub fn decimals_acts(base: Base, look: Look<'_>) -> Act
     if is_e(look.here) {
         return Act::eat(Phase::BehindE(base));
     }
-    float_ends(base, false, look)
+    number_ends(End::float(base, false), look)
 }
 
 // In the digits of an exponent.
@@ -152,7 +133,7 @@ pub fn power_acts(base: Base, any: bool, look: Look<'_>) -> Act
             any: met_figure(Base::Decimal, any, look.here),
         });
     }
-    float_ends(base, !any, look)
+    number_ends(End::float(base, !any), look)
 }
 
 pub fn behind_e_acts(base: Base, look: Look<'_>) -> Act

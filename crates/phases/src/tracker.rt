@@ -51,8 +51,8 @@ impl Tracker {
         n == 1 && self.prev == 0x30 && c == 0x78
     }
 
-    #[tactic(auto, unfolding(feeding::specs::Tracker::seen))]
     // One character more, at place n; `suffix`: the suffix starts there.
+    #[tactic(auto, unfolding(feeding::specs::Tracker::seen))]
     pub fn see(self, suffix: bool, n: u32, c: u32) -> Tracker
         ensures { tracker_of result ≡ seen (tracker_of self) suffix n c }
     {
@@ -94,7 +94,8 @@ impl Tracker {
     }
 }
 
-// The kinds of numbers: from a binary Int to a hexadecimal Float with an empty exponent. A state may name any number as a kind, and so these tests are on numbers.
+// The kinds of numbers: from a binary Int to a hexadecimal Float with an empty exponent. These tests are on numbers and not on a `Kind`, since a state
+// that a caller hands in may name any number as one.
 fn is_number(kind: u32) -> bool
     ensures { result ≡ is_number kind }
 {
