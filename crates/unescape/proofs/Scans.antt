@@ -20,12 +20,12 @@ use Rattle.unescape.specs.Steps.{outcome_of, Scanned}
 pub next_end : {s : List ℕ} {at : ℕ} → at ≤ length s → length s ≤ at → Next s at None s at
 next_end {s} {at} k h =
     let e = left_end s at h in
-    record { same = refl; read = rw e; place = record { after = omega arith; within = k; there = e ∙ sym (ap rest_of e) } }
+    record { same = refl; read = rw e; place = record { after = omega arith; within = k; there = e ∙ sym (ap rest_of e) }; onward = tt }
 
 pub next_char : {s : List ℕ} {at code wide : ℕ} → Decoded s at code wide → at < length s → Next s at (Some code) s (at + wide)
 next_char d l =
     let p = decoded_point d l in
-    record { same = refl; read = rw p.view; place = record { after = omega arith; within = p.within; there = sym (ap rest_of p.view) } }
+    record { same = refl; read = rw p.view; place = record { after = omega arith; within = p.within; there = sym (ap rest_of p.view) }; onward = omega (arith, p.some) }
 
 none_left : (l : List ℕ) → None ≡ first_of l → l ≡ []
 none_left [] e = refl
@@ -41,6 +41,9 @@ module _ {s s' : List ℕ} {at end : ℕ} {x : Option ℕ} (n : Next s at x s' e
 
   pub next_some : {c : ℕ} → x ≡ Some c → left s at ≡ c ∷ left s end
   next_some {c} e = some_left (left s at) (sym e ∙ n.read) ∙ ap (λ (t : List ℕ). c ∷ t) (sym n.place.there)
+
+  pub next_onward : {c : ℕ} → x ≡ Some c → at < end
+  next_onward e = rw e at n.onward
 
   module _ (f : List ℕ → Outcome × List ℕ) {r : Result ℕ EscapeError} where
     -- at the end

@@ -25,8 +25,8 @@ use Rattle.modes.specs.Errors.{Outcome, char, error, number, multiple_skipped_li
 use Rattle.unescape.specs.Chars.{rest_of, Next}
 use Rattle.unescape.specs.Escapes.{hex_escape, unicode_escape, simple, escape, ascii_check}
 use Rattle.unescape.specs.Bodies.{given, alone, is_escape_only, one_char, char_or_byte, str_char, raw_char, is_skipped, saw_lf, one, unskipped, skipped, slashed, str_common, raw_str, turn}
-use Rattle.unescape.specs.Steps.{outcome_of, step_of, item_from, space_from, Scanned, AteOn, Stepped, Behind, on_first}
-use Rattle.unescape.proofs.Scans.{next_end, next_char, next_none, next_some, scanned_end, scanned_same, scanned_stay}
+use Rattle.unescape.specs.Steps.{outcome_of, step_of, item_from, space_from, Scanned, AteOn, Stepped, Behind, From}
+use Rattle.unescape.proofs.Scans.{next_end, next_char, next_none, next_some, next_onward, scanned_end, scanned_same, scanned_stay}
 use Rattle.unescape.proofs.Escaping.{escape_none, escape_hex, escape_unicode, escape_simple}
 
 -- ---- the place of what is left
@@ -34,78 +34,68 @@ pub place_of : (s : List ℕ) (at : ℕ) → at ≤ length s → length s - byte
 place_of s at h = omega (arith, bytes_chars (drop at s), length-drop at s)
 
 -- a turn of one item
-one_step : {s : List ℕ} {start end : ℕ} (read : Result ℕ EscapeError) {x : Outcome × List ℕ} → outcome_of read ≡ x.0 → Place s start end x.1 → start < end → Stepped (one (length s) (left s start) x) s start (step_of read end)
-one_step {s} {start} {end} read {x} w p l =
+one_step : {s s' : List ℕ} {start end : ℕ} (read : Result ℕ EscapeError) {x : Outcome × List ℕ} → s' ≡ s → outcome_of read ≡ x.0 → Place s start end x.1 → start < end → Stepped (one (length s) (left s start) x) s start (step_of read) s' end
+one_step {s} {start = start} {end = end} read {x} e w p l =
     record {
+      same = e;
       gives = rw (← w, ← p.there, place_of s start (omega (arith, p.within)), place_of s end p.within);
       place = p;
       onward = l;
       inside = tt;
     }
 
-scan_step : (f : List ℕ → Outcome × List ℕ) {s s' : List ℕ} {at end : ℕ} {read : Result ℕ EscapeError} {r : Step} → Scanned f s at read s' end → r ≡ step_of read end → Behind (λ from. one (length s) from (f (left s at))) s at r
+scan_step : (f : List ℕ → Outcome × List ℕ) {s s' : List ℕ} {at end : ℕ} {read : Result ℕ EscapeError} {r : Step} → Scanned f s at read s' end → r ≡ step_of read → Behind (λ from. one (length s) from (f (left s at))) s at r s' end
 scan_step f {read = read} q e start l =
     let p = q.place in
-    rw e (one_step read q.what (record { after = omega (arith, p.after); within = p.within; there = p.there }) (omega (arith, p.after)))
+    rw e (one_step read q.same q.what (record { after = omega (arith, p.after); within = p.within; there = p.there }) (omega (arith, p.after)))
 
 -- ---- by the first character
-module _ {s : List ℕ} {at c wide : ℕ} (d : Decoded s at c wide) (l : at < length s) where
-  view : left s at ≡ c ∷ left s (at + wide)
-  view = (decoded_point d l).view
+module _ {s : List ℕ} {at : ℕ} (c : ℕ) (k : at ≤ length s) (ascii_only : Bool) {r : Step} where
+  char_step : (o : Outcome) {read : Result ℕ EscapeError} → outcome_of read ≡ o → r ≡ step_of read → (start : ℕ) → start < at → left s start ≡ c ∷ left s at → Stepped (one (length s) (c ∷ left s at) (o, left s at)) s start r s at
+  char_step o {read} e f start l v =
+      rw f (rw v at (one_step {start = start} read {x = (o, left s at)} refl e (record { after = omega arith; within = k; there = refl }) l))
 
-  char_step : (o : Outcome) {read : Result ℕ EscapeError} {r : Step} → outcome_of read ≡ o → r ≡ step_of read (at + wide) → Stepped (one (length s) (left s at) (o, left s (at + wide))) s at r
-  char_step o {read} e f =
-      let p = decoded_point d l in
-      rw f (one_step read e (record { after = omega arith; within = p.within; there = refl }) (omega (arith, p.some)))
+  pub raw_step : {read : Result ℕ EscapeError} → outcome_of read ≡ raw_char ascii_only c → r ≡ step_of read → From (raw_str (length s) ascii_only) c s at r s at
+  unfolding raw_str
+  raw_step e f = char_step (raw_char ascii_only c) e f
 
-  pub raw_return : (ascii_only : Bool) {r : Step} → c ≡ 0x0D → r ≡ step_of (Err bad.BareCarriageReturnInRawString) (at + wide) → Stepped (on_first (raw_str (length s) ascii_only) (left s at)) s at r
-  unfolding raw_str raw_char
-  raw_return ascii_only h e = rw (view, h) (rw (view, h) at (char_step (error 6) refl e))
-
-  pub raw_ascii : (ascii_only : Bool) {read : Result ℕ EscapeError} {r : Step} → (c ≡ 0x0D → ⊥) → outcome_of read ≡ ascii_check ascii_only c → r ≡ step_of read (at + wide) → Stepped (on_first (raw_str (length s) ascii_only) (left s at)) s at r
-  unfolding raw_str raw_char
-  raw_ascii ascii_only n e f =
-      rw (view, ne_eqb c 0x0D n) (rw view at (char_step (ascii_check ascii_only c) e f))
-
-  pub str_step : (ascii_only : Bool) {read : Result ℕ EscapeError} {r : Step} → (c ≡ 0x5C → ⊥) → outcome_of read ≡ str_char ascii_only c → r ≡ step_of read (at + wide) → Stepped (on_first (str_common (length s) ascii_only) (left s at)) s at r
+  pub str_step : {read : Result ℕ EscapeError} → (c ≡ 0x5C → ⊥) → outcome_of read ≡ str_char ascii_only c → r ≡ step_of read → From (str_common (length s) ascii_only) c s at r s at
   unfolding str_common
-  str_step ascii_only n e f = rw (view, ne_eqb c 0x5C n) (rw view at (char_step (str_char ascii_only c) e f))
+  str_step n e f start l v = rw (ne_eqb c 0x5C n) (char_step (str_char ascii_only c) e f start l v)
 
-  pub str_slash : (ascii_only : Bool) {r : Step} → c ≡ 0x5C → Behind (λ from. slashed (length s) ascii_only from (left s (at + wide))) s (at + wide) r → Stepped (on_first (str_common (length s) ascii_only) (left s at)) s at r
-  unfolding str_common
-  str_slash ascii_only h b =
-      let p = decoded_point d l in
-      rw (view, eq-eqb c 0x5C h) (rw view at (b at (omega (arith, p.some))))
+pub str_slash : {s s' : List ℕ} {at end : ℕ} (c : ℕ) (ascii_only : Bool) {r : Step} → c ≡ 0x5C → Behind (λ from. slashed (length s) ascii_only from (left s at)) s at r s' end → From (str_common (length s) ascii_only) c s at r s' end
+unfolding str_common
+str_slash c ascii_only h b start l v = rw (eq-eqb c 0x5C h) (rw v at (b start l))
 
 -- ---- behind a backslash
-pub slash_none : (ascii_only : Bool) {s : List ℕ} {at : ℕ} {r : Step} → length s ≤ at → at ≤ length s → r ≡ step_of (Err bad.LoneSlash) at → Behind (λ from. slashed (length s) ascii_only from (left s at)) s at r
-unfolding slashed
-slash_none ascii_only {s} {at} h k e start l =
-    let v = left_end s at h in
-    rw v (rw v at (scan_step (escape ascii_only) (escape_none (next_end k h) refl ascii_only refl) e start l))
-
-module _ {s : List ℕ} {at c wide : ℕ} (ascii_only : Bool) (d : Decoded s at c wide) (m : at < length s) where
-  pub slash_skip : {r : Step} → c ≡ 0x0A → Behind (λ from. skipped (length s) from (eat is_skipped saw_lf false (left s (at + wide)))) s (at + wide) r →
-      Behind (λ from. slashed (length s) ascii_only from (left s at)) s at r
+module _ {s s₁ : List ℕ} {at at₁ : ℕ} {x : Option ℕ} (ascii_only : Bool) (n : Next s at x s₁ at₁) {r : Step} where
+  pub slash_none : x ≡ None → r ≡ step_of (Err bad.LoneSlash) → Behind (λ from. slashed (length s) ascii_only from (left s at)) s at r s₁ at₁
   unfolding slashed
-  slash_skip h b start l =
-      let v = view d m in
-      rw (v, eq-eqb c 0x0A h) (b start (omega arith))
+  slash_none k e start l =
+      let v = next_none n k in
+      rw v (rw v at (scan_step (escape ascii_only) (escape_none n k ascii_only refl) e start l))
 
-  slash_escape : {read : Result ℕ EscapeError} {s' : List ℕ} {end : ℕ} {r : Step} → (c ≡ 0x0A → ⊥) → Scanned (escape ascii_only) s at read s' end → r ≡ step_of read end → Behind (λ from. slashed (length s) ascii_only from (left s at)) s at r
-  unfolding slashed
-  slash_escape n q e start l =
-      let v = view d m in
-      rw (v, ne_eqb c 0x0A n) (rw v at (scan_step (escape ascii_only) q e start l))
+  module _ {c : ℕ} (k : x ≡ Some c) {s₂ : List ℕ} {at₂ : ℕ} where
+    pub slash_skip : c ≡ 0x0A → Behind (λ from. skipped (length s₁) from (eat is_skipped saw_lf false (left s₁ at₁))) s₁ at₁ r s₂ at₂ → Behind (λ from. slashed (length s) ascii_only from (left s at)) s at r s₂ at₂
+    unfolding slashed
+    slash_skip h b' start l =
+        let b = rw n.same at (b' start (omega (arith, n.place.after))) in
+        rw (next_some n k, eq-eqb c 0x0A h) b
 
-  pub slash_hex : {read : Result ℕ EscapeError} {s' : List ℕ} {end : ℕ} {r : Step} → c ≡ 0x78 → Scanned hex_escape s (at + wide) read s' end → r ≡ step_of read end → Behind (λ from. slashed (length s) ascii_only from (left s at)) s at r
-  slash_hex h q e = slash_escape (λ z. omega arith) (escape_hex (next_char d m) refl ascii_only h q) e
+    slash_escape : {read : Result ℕ EscapeError} → (c ≡ 0x0A → ⊥) → Scanned (escape ascii_only) s at read s₂ at₂ → r ≡ step_of read → Behind (λ from. slashed (length s) ascii_only from (left s at)) s at r s₂ at₂
+    unfolding slashed
+    slash_escape h q e start l =
+        let v = next_some n k in
+        rw (v, ne_eqb c 0x0A h) (rw v at (scan_step (escape ascii_only) q e start l))
 
-  pub slash_unicode : {read : Result ℕ EscapeError} {s' : List ℕ} {end : ℕ} {r : Step} → c ≡ 0x75 → Scanned (unicode_escape ascii_only) s (at + wide) read s' end → r ≡ step_of read end → Behind (λ from. slashed (length s) ascii_only from (left s at)) s at r
-  slash_unicode h q e = slash_escape (λ z. omega arith) (escape_unicode (next_char d m) refl ascii_only h q) e
+    pub slash_hex : {read : Result ℕ EscapeError} → c ≡ 0x78 → Scanned hex_escape s₁ at₁ read s₂ at₂ → r ≡ step_of read → Behind (λ from. slashed (length s) ascii_only from (left s at)) s at r s₂ at₂
+    slash_hex h q e = slash_escape (λ z. omega arith) (escape_hex n k ascii_only h q) e
 
-  pub slash_simple : {read : Result ℕ EscapeError} {r : Step} → (c ≡ 0x0A → ⊥) → (c ≡ 0x78 → ⊥) → (c ≡ 0x75 → ⊥) → outcome_of read ≡ simple c → r ≡ step_of read (at + wide) → Behind (λ from. slashed (length s) ascii_only from (left s at)) s at r
-  slash_simple n g h q e = slash_escape n (escape_simple (next_char d m) refl ascii_only g h q) e
+    pub slash_unicode : {read : Result ℕ EscapeError} → c ≡ 0x75 → Scanned (unicode_escape ascii_only) s₁ at₁ read s₂ at₂ → r ≡ step_of read → Behind (λ from. slashed (length s) ascii_only from (left s at)) s at r s₂ at₂
+    slash_unicode h q e = slash_escape (λ z. omega arith) (escape_unicode n k ascii_only h q) e
+
+  pub slash_simple : {c : ℕ} {read : Result ℕ EscapeError} → x ≡ Some c → (c ≡ 0x0A → ⊥) → (c ≡ 0x78 → ⊥) → (c ≡ 0x75 → ⊥) → outcome_of read ≡ simple c → r ≡ step_of read → Behind (λ from. slashed (length s) ascii_only from (left s at)) s at r s₁ at₁
+  slash_simple k h g m q e = slash_escape k h (escape_simple n k ascii_only g m q) e
 
 -- ---- behind a backslash and a newline
 -- whether the next character is white space
@@ -128,13 +118,14 @@ lines_is : (lines : Bool) (start end : ℕ) → given lines (record { start = st
 lines_is true start end = refl
 lines_is false start end = refl
 
-pub skip_step : {s s₁ s₂ : List ℕ} {at end past : ℕ} {lines white : Bool} {x : Option ℕ} {r : Step} → AteOn is_skipped saw_lf s at false s₁ end lines → Next s₁ end x s₂ past → white ≡ white_next x → r ≡ record { at = end; item = then_some lines (Err bad.MultipleSkippedLinesWarning); space = then_some white past } →
-    Behind (λ from. skipped (length s) from (eat is_skipped saw_lf false (left s at))) s at r
+pub skip_step : {s s₁ s₂ : List ℕ} {at end past : ℕ} {lines white : Bool} {x : Option ℕ} {r : Step} → AteOn is_skipped saw_lf s at false s₁ end lines → Next s₁ end x s₂ past → white ≡ white_next x → r ≡ record { item = then_some lines (Err bad.MultipleSkippedLinesWarning); space = then_some white past } →
+    Behind (λ from. skipped (length s) from (eat is_skipped saw_lf false (left s at))) s at r s₁ end
 unfolding skipped
 skip_step {s} {at = at} {end = end} {past = past} {lines = lines} {white = white} {x = x} a n' o e start l =
     let n = rw a.same at n' in
     let p = a.ate.place in
     rw e (record {
+      same = a.same;
       gives = rw (← a.ate.state, ← p.there, place_of s start (omega (arith, p.within, p.after)), place_of s end p.within, o, lines_is lines start end, unskipped_is {start = start} n (omega (arith, p.within, p.after)));
       place = record { after = omega (arith, p.after); within = p.within; there = p.there };
       onward = omega (arith, p.after);
@@ -142,20 +133,30 @@ skip_step {s} {at = at} {end = end} {past = past} {lines = lines} {white = white
     })
 
 -- ---- any mode
-module _ (size mode : ℕ) {b : Bool} (o : b ≡ is_raw mode) (l : List ℕ) where
-  is_raw_lem : b ≡ true → on_first (turn mode size) l ≡ on_first (raw_str size (characters_should_be_ascii mode)) l
+module _ {s s' : List ℕ} {at end : ℕ} {r : Step} (mode c : ℕ) {b : Bool} (o : b ≡ is_raw mode) where
+  pub turn_raw : b ≡ true → From (raw_str (length s) (characters_should_be_ascii mode)) c s at r s' end → From (turn mode (length s)) c s at r s' end
   unfolding turn
-  is_raw_lem t = elim l as (λ k. on_first (turn mode size) k ≡ on_first (raw_str size (characters_should_be_ascii mode)) k) [ [] ↦ refl | c ∷ m ↦ rw (sym o ∙ t) ]
+  turn_raw t q start l v = rw (sym o ∙ t) (q start l v)
 
-  is_str : b ≡ false → on_first (turn mode size) l ≡ on_first (str_common size (characters_should_be_ascii mode)) l
+  pub turn_str : b ≡ false → From (str_common (length s) (characters_should_be_ascii mode)) c s at r s' end → From (turn mode (length s)) c s at r s' end
   unfolding turn
-  is_str t = elim l as (λ k. on_first (turn mode size) k ≡ on_first (str_common size (characters_should_be_ascii mode)) k) [ [] ↦ refl | c ∷ m ↦ rw (sym o ∙ t) ]
+  turn_str t q start l v = rw (sym o ∙ t) (q start l v)
 
-  pub turn_raw : {s : List ℕ} {at : ℕ} {r : Step} → b ≡ true → Stepped (on_first (raw_str size (characters_should_be_ascii mode)) l) s at r → Stepped (on_first (turn mode size) l) s at r
-  turn_raw t q = rw (is_raw_lem t) q
+-- a turn at a place of s, and what stands there; at the end, nothing
+pub turn_none : {s t s₁ : List ℕ} {start at at₁ : ℕ} {x : Option ℕ} → t ≡ s → start ≡ at → Next t at x s₁ at₁ → x ≡ None → left s start ≡ []
+turn_none {s} {s₁ = s₁} {start = start} {at₁ = at₁} {x = x} e u n' k =
+    let n : Next s start x s₁ at₁ = rw u (rw e at n') in
+    next_none n k
 
-  pub turn_str : {s : List ℕ} {at : ℕ} {r : Step} → b ≡ false → Stepped (on_first (str_common size (characters_should_be_ascii mode)) l) s at r → Stepped (on_first (turn mode size) l) s at r
-  turn_str t q = rw (is_str t) q
+module _ {s t s₁ : List ℕ} {start at at₁ c : ℕ} {x : Option ℕ} (e : t ≡ s) (u : start ≡ at) (n' : Next t at x s₁ at₁) (k : x ≡ Some c) where
+  n : Next s start x s₁ at₁
+  n = rw u (rw e at n')
+
+  pub turn_view : left s start ≡ c ∷ left s at₁
+  turn_view = next_some n k
+
+  pub turn_at : {s₂ : List ℕ} {end : ℕ} {r : Step} (mode : ℕ) → From (turn mode (length s₁)) c s₁ at₁ r s₂ end → Stepped (turn mode (length s) c (left s at₁)) s start r s₂ end
+  turn_at mode q' = let q = rw n.same at q' in q _ (next_onward n k) turn_view
 
 -- ---- the one character of Char and Byte
 only_slash : is_escape_only 0x5C ≡ true → ⊥
@@ -233,4 +234,3 @@ module _ {s s₁ : List ℕ} {at at₁ : ℕ} {x : Option ℕ} (ascii_only : Boo
             | Some c' ↦ λ z. absurd (false≢true (sym (rw z at h)))
           ] refl
 
-pub ruleset turning = (raw_return, raw_ascii, str_step, str_slash, slash_none, slash_skip, slash_hex, slash_unicode, slash_simple, turn_raw, turn_str, one_escape, one_only, one_return, one_ascii, char_none)

@@ -40,7 +40,7 @@ use Rattle.modes.specs.Modes.{is_raw, is_single, characters_should_be_ascii, byt
 use Rattle.modes.specs.Errors.{Outcome, error}
 use Rattle.unescape.specs.Escapes.{escape}
 use Rattle.unescape.specs.Bodies.{Item, given, char_or_byte, str_char, raw_char, is_skipped, saw_lf, item, one, unskipped, skipped, slashed, str_common, raw_str, turn, turns, items, items_of, flat}
-use Rattle.unescape.specs.Steps.{ascii_only, Scanned, on_first, Stepped, item_from, space_from, item_words, writes, Walked, StoredItems}
+use Rattle.unescape.specs.Steps.{ascii_only, Scanned, From, Stepped, item_from, space_from, item_words, writes, Walked, StoredItems}
 use Rattle.unescape.specs.Promises.{answer_of, listed, Unescaped, part, single, read_one}
 use Rattle.unescape.proofs.Fair.{allows_any, escape_fair}
 use Rattle.unescape.proofs.Turns.{place_of}
@@ -144,8 +144,8 @@ pub record Walking (mode : ℕ) (s list₀ : List ℕ) (at n : ℕ) (list : List
   pub storing : Storing (flat (turns mode (length s) (chars s))) (writes list₀) list₀ (flat (turns mode (length s) (left s at))) (3 * n) list
 
 -- in the middle of a turn: its second item is to come
-pub record Half (mode : ℕ) (s list₀ : List ℕ) (at : ℕ) (r : Step) (n : ℕ) (list : List ℕ) : Type 0 where
-  pub storing : Storing (flat (turns mode (length s) (chars s))) (writes list₀) list₀ (flat (space_from at r.space) ++ flat (turns mode (length s) (left s r.at))) (3 * n) list
+pub record Half (mode : ℕ) (s list₀ : List ℕ) (at : ℕ) (r : Step) (end n : ℕ) (list : List ℕ) : Type 0 where
+  pub storing : Storing (flat (turns mode (length s) (chars s))) (writes list₀) list₀ (flat (space_from at r.space) ++ flat (turns mode (length s) (left s end))) (3 * n) list
 
 pub walking_none : (mode : ℕ) (s list : List ℕ) → Walking mode s list 0 0 list
 walking_none mode s list = record { within = omega arith; storing = storing_none (flat (turns mode (length s) (chars s))) (writes list) list }
@@ -154,44 +154,44 @@ walking_none mode s list = record { within = omega arith; storing = storing_none
 put_as : (list₀ : List ℕ) {list list' vs : List ℕ} {k k' : ℕ} → length list ≡ length list₀ → PutIf (writes list) list k vs list' k' → PutIf (writes list₀) list k vs list' k'
 put_as list₀ e p = rw e at p
 
-module _ (mode : ℕ) {s : List ℕ} {at : ℕ} {r : Step} (h : at < length s) (q : Stepped (on_first (turn mode (length s)) (left s at)) s at r) where
+module _ (mode : ℕ) {s s' : List ℕ} {at c end : ℕ} (at' : ℕ) {r : Step} (v : left s at ≡ c ∷ left s at') (q : Stepped (turn mode (length s) c (left s at')) s at r s' end) where
   -- the words of the turn at the front
-  front : flat (turns mode (length s) (left s at)) ≡ flat (item_from at r.item r.at) ++ (flat (space_from at r.space) ++ flat (turns mode (length s) (left s r.at)))
+  front : flat (turns mode (length s) (left s at)) ≡ flat (item_from at r.item end) ++ (flat (space_from at r.space) ++ flat (turns mode (length s) (left s end)))
   front =
-      let x = on_first (turn mode (length s)) (left s at) in
-      let e : turns mode (length s) (left s at) ≡ x.0 ++ turns mode (length s) x.1 = rw (point_at s at h).view (turns_cons mode (length s) _ _) in
+      let x = turn mode (length s) c (left s at') in
+      let e : turns mode (length s) (left s at) ≡ x.0 ++ turns mode (length s) x.1 = rw v (turns_cons mode (length s) c (left s at')) in
       ap flat e ∙ flat_append x.0 (turns mode (length s) x.1)
-      ∙ rw (q.gives, ← q.place.there, flat_append (item_from at r.item r.at) (space_from at r.space)) (append_assoc (flat (item_from at r.item r.at)) (flat (space_from at r.space)) (flat (turns mode (length s) (left s r.at))))
+      ∙ rw (q.gives, ← q.place.there, flat_append (item_from at r.item end) (space_from at r.space)) (append_assoc (flat (item_from at r.item end)) (flat (space_from at r.space)) (flat (turns mode (length s) (left s end))))
 
   module _ {list₀ : List ℕ} {list : List ℕ} {n : ℕ} (w : Walking mode s list₀ at n list) where
     -- the first item, or none
-    pub walk_item : {read : Result ℕ EscapeError} {n' : ℕ} {list' : List ℕ} → r.item ≡ Some read → PutIf (writes list) list (3 * n) (item_words at r.at read) list' (3 * n') → Half mode s list₀ at r n' list'
+    pub walk_item : {read : Result ℕ EscapeError} {n' : ℕ} {list' : List ℕ} → r.item ≡ Some read → PutIf (writes list) list (3 * n) (item_words at end read) list' (3 * n') → Half mode s list₀ at r end n' list'
     walk_item {read} k p =
-        record { storing = storing_on (rw (front, k, flat_item at r.at read) at w.storing) (put_as list₀ w.storing.long p) }
+        record { storing = storing_on (rw (front, k, flat_item at end read) at w.storing) (put_as list₀ w.storing.long p) }
 
-    pub walk_no_item : r.item ≡ None → Half mode s list₀ at r n list
+    pub walk_no_item : r.item ≡ None → Half mode s list₀ at r end n list
     unfolding flat
     walk_no_item k = record { storing = rw (front, k) at w.storing }
 
     pub walk_room : {read : Result ℕ EscapeError} → (0 < length list₀ → length (flat (turns mode (length s) (chars s))) ≤ length list₀) → r.item ≡ Some read → 0 < length list → 3 * n + 3 ≤ length list
     walk_room {read} k e t =
-        let rest = flat (space_from at r.space) ++ flat (turns mode (length s) (left s r.at)) in
-        let f : length (flat (turns mode (length s) (left s at))) ≡ 3 + length rest = ap length front ∙ rw (e, flat_item at r.at read) (omega arith) in
+        let rest = flat (space_from at r.space) ++ flat (turns mode (length s) (left s end)) in
+        let f : length (flat (turns mode (length s) (left s at))) ≡ 3 + length rest = ap length front ∙ rw (e, flat_item at end read) (omega arith) in
         omega (arith, k (omega (arith, w.storing.long)), w.storing.count, w.storing.long, f)
 
-  module _ {list₀ list : List ℕ} {n : ℕ} (w : Half mode s list₀ at r n list) where
+  module _ {list₀ list : List ℕ} {n : ℕ} (w : Half mode s list₀ at r end n list) where
     -- the second, or none
-    pub walk_space : {past n' : ℕ} {list' : List ℕ} → r.space ≡ Some past → PutIf (writes list) list (3 * n) (item_words at past (Err bad.UnskippedWhitespaceWarning)) list' (3 * n') → Walking mode s list₀ r.at n' list'
+    pub walk_space : {past n' : ℕ} {list' : List ℕ} → r.space ≡ Some past → PutIf (writes list) list (3 * n) (item_words at past (Err bad.UnskippedWhitespaceWarning)) list' (3 * n') → Walking mode s list₀ end n' list'
     walk_space {past} k p =
         record { within = q.place.within; storing = storing_on (rw (k, flat_space at past) at w.storing) (put_as list₀ w.storing.long p) }
 
-    pub walk_no_space : r.space ≡ None → Walking mode s list₀ r.at n list
+    pub walk_no_space : r.space ≡ None → Walking mode s list₀ end n list
     unfolding flat
     walk_no_space k = record { within = q.place.within; storing = rw k at w.storing }
 
     pub half_room : {past : ℕ} → (0 < length list₀ → length (flat (turns mode (length s) (chars s))) ≤ length list₀) → r.space ≡ Some past → 0 < length list → 3 * n + 3 ≤ length list
     half_room {past} k e t =
-        let rest = flat (turns mode (length s) (left s r.at)) in
+        let rest = flat (turns mode (length s) (left s end)) in
         let f : length (flat (space_from at r.space) ++ rest) ≡ 3 + length rest = rw (e, flat_space at past) (omega arith) in
         omega (arith, k (omega (arith, w.storing.long)), w.storing.count, w.storing.long, f)
 
@@ -200,14 +200,14 @@ module _ {mode : ℕ} {s list₀ list : List ℕ} {at n : ℕ} where
   walk_few w =
       omega (arith, w.storing.count, length_flat (turns mode (length s) (chars s)), few_turns mode (length s) (chars s), bytes_chars s)
 
-  pub half_few : {r : Step} → Half mode s list₀ at r n list → n ≤ length s
+  pub half_few : {r : Step} {end : ℕ} → Half mode s list₀ at r end n list → n ≤ length s
   half_few w =
       omega (arith, w.storing.count, length_flat (turns mode (length s) (chars s)), few_turns mode (length s) (chars s), bytes_chars s)
 
-  pub walk_end : Walking mode s list₀ at n list → length s ≤ at → Walked (turns mode (length s) (chars s)) list₀ n list
+  pub walk_end : Walking mode s list₀ at n list → left s at ≡ [] → Walked (turns mode (length s) (chars s)) list₀ n list
   unfolding flat
   walk_end w h =
-      let z : flat (turns mode (length s) (left s at)) ≡ [] = ap (λ (l : List ℕ). flat (turns mode (length s) l)) (left_end s at h) ∙ (rw (turns_nil mode (length s))) in
+      let z : flat (turns mode (length s) (left s at)) ≡ [] = ap (λ (l : List ℕ). flat (turns mode (length s) l)) h ∙ (rw (turns_nil mode (length s))) in
       let e = storing_end (rw z at w.storing) in
       record { count = omega (arith, e.0, length_flat (turns mode (length s) (chars s))); words = e.1 }
 

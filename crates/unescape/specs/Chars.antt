@@ -1,6 +1,6 @@
 -- What `next` of the characters of a text answers.
 -- Assumes nothing.
-use Rattle.std.specs.Prelude.{ℕ, ◌≡◌, List, [], ◌∷◌, Option, Some, None}
+use Rattle.std.specs.Prelude.{ℕ, ◌<◌, ◌≡◌, List, [], ◌∷◌, Option, Some, None, IfSome}
 use Rattle.characters.specs.Text.{left}
 use Rattle.characters.specs.Steps.{Place}
 
@@ -17,3 +17,4 @@ pub record Next (s : List ℕ) (at : ℕ) (r : Option ℕ) (s' : List ℕ) (end 
   pub same : s' ≡ s
   pub read : r ≡ first_of (left s at)
   pub place : Place s at end (rest_of (left s at))
+  pub onward : IfSome r (λ c. at < end)

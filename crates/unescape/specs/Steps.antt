@@ -56,24 +56,24 @@ space_from start None = []
 space_from start (Some past) = record { start = start; end = past; outcome = number (error unskipped_whitespace_warning) } ∷ []
 
 -- the turn of one scan
-abbrev pub step_of : Result ℕ EscapeError → ℕ → Step
-step_of read end = record { at = end; item = Some read; space = None }
+abbrev pub step_of : Result ℕ EscapeError → Step
+step_of read = record { item = Some read; space = None }
 
--- a turn at a place, where its items start, by the items and what is left behind it
-pub record Stepped (x : List Item × List ℕ) (s : List ℕ) (at : ℕ) (r : Step) : Type 0 where
-  pub gives : x.0 ≡ item_from at r.item r.at ++ space_from at r.space
-  pub place : Place s at r.at x.1
-  pub onward : at < r.at
+-- a turn over s whose items start at a place, and that ends at a place of s', by the items and what is left behind it
+pub record Stepped (x : List Item × List ℕ) (s : List ℕ) (start : ℕ) (r : Step) (s' : List ℕ) (end : ℕ) : Type 0 where
+  pub same : s' ≡ s
+  pub gives : x.0 ≡ item_from start r.item end ++ space_from start r.space
+  pub place : Place s start end x.1
+  pub onward : start < end
   pub inside : IfSome r.space (λ past. past ≤ length s)
 
 -- the part of a turn behind `at`, wherever before that the turn starts: g says what it gives, by what is left at the start
-abbrev pub Behind : (List ℕ → List Item × List ℕ) → List ℕ → ℕ → Step → Type 0
-Behind g s at r = (start : ℕ) → start < at → Stepped (g (left s start)) s start r
+abbrev pub Behind : (List ℕ → List Item × List ℕ) → List ℕ → ℕ → Step → List ℕ → ℕ → Type 0
+Behind g s at r s' end = (start : ℕ) → start < at → Stepped (g (left s start)) s start r s' end
 
--- by the first character of a list
-abbrev pub on_first : (ℕ → List ℕ → List Item × List ℕ) → List ℕ → List Item × List ℕ
-on_first f [] = ([], [])
-on_first f (c ∷ t) = f c t
+-- the part of a turn behind its first character c: f says what it gives, by that and what is left behind it
+abbrev pub From : (ℕ → List ℕ → List Item × List ℕ) → ℕ → List ℕ → ℕ → Step → List ℕ → ℕ → Type 0
+From f c s at r s' end = (start : ℕ) → start < at → left s start ≡ c ∷ left s at → Stepped (f c (left s at)) s start r s' end
 
 -- ---- the items of a whole body
 -- the words of one item

@@ -1,32 +1,29 @@
 // The characters of a body, and what each gives.
-ghost use Rattle.std.specs.Prelude.{◌≡◌, false, ◌≤◌, ◌<◌, length};
+ghost use Rattle.std.specs.Prelude.{◌≡◌, false, length};
 ghost use Rattle.lists.specs.Eat.{eat};
 ghost use Rattle.characters.specs.Text.{left};
-ghost use Rattle.unescape.specs.Bodies.{is_escape_only, one_char, char_or_byte, str_char, is_skipped, saw_lf, skipped, slashed, str_common, raw_str, turn};
+ghost use Rattle.unescape.specs.Bodies.{is_escape_only, one_char, char_or_byte, str_char, is_skipped, saw_lf, skipped, slashed, str_common, raw_char, turn};
 ghost use Rattle.modes.specs.Numbers.{mode_number};
-ghost use Rattle.unescape.specs.Steps.{outcome_of, ascii_only, step_of, Scanned, AteOn, Behind, on_first, Stepped};
+ghost use Rattle.unescape.specs.Steps.{outcome_of, ascii_only, step_of, Scanned, AteOn, Behind, From};
 
 use crate::chars::Chars;
 use crate::escapes::{ascii_check, scan_escape, scan_hex, scan_unicode, simple};
-use characters::utf8::decode;
 use modes::{EscapeError, Mode};
 use ucd::is_white_space;
 
-// What a turn over a body gives: an item up to `at`, the place behind, where there is one; and the place up to which warning 21 goes, where it
-// is given.
+// What a turn over a body gives, which leads up to where the characters then are: the item up to there, if there is one; and the place up to which
+// warning 21 goes, if it is given.
 #[derive(Clone, Copy)]
 pub struct Step {
-    pub at: usize,
     pub item: Option<Result<u32, EscapeError>>,
     pub space: Option<usize>,
 }
 
 // One item.
-fn item(read: Result<u32, EscapeError>, at: usize) -> Step
-    ensures { result ≡ step_of read at }
+fn item(read: Result<u32, EscapeError>) -> Step
+    ensures { result ≡ step_of read }
 {
     Step {
-        at,
         item: Some(read),
         space: None,
     }
@@ -75,40 +72,26 @@ fn str_char(c: u32, mode: Mode) -> Result<u32, EscapeError>
 
 // Behind a backslash: as `scan_escape`, but for the newline. It tells the escapes apart itself, so that what stands there is decoded
 // once, and an escape of one character is compiled into the loop.
-fn slash(text: &[u8], at: usize, mode: Mode) -> Step
-    requires { at ≤ length text.now }
-    ensures { Behind (λ from. slashed (length text.now) (ascii_only mode) from (left text.now at)) text.now at result }
+fn slash(chars: &mut Chars<'_>, mode: Mode) -> Step
+    ensures { Behind (λ from. slashed (length chars.old.text.now) (ascii_only mode) from (left chars.old.text.now chars.old.at)) chars.old.text.now chars.old.at result chars.new.text.now chars.new.at }
 {
-    if text.len() <= at {
-        return item(Err(EscapeError::LoneSlash), at);
-    }
-    let d = decode(text, at);
-    let next = at + d.wide;
-    match d.code {
-        0x0A => skip_ascii_whitespace(Chars { text, at: next }),
-        0x78 => {
-            let mut chars = Chars { text, at: next };
-            item(scan_hex(&mut chars), chars.at)
-        }
-        0x75 => {
-            let mut chars = Chars { text, at: next };
-            item(scan_unicode(&mut chars, mode), chars.at)
-        }
-        c => item(simple(c), next),
+    match chars.next() {
+        None => item(Err(EscapeError::LoneSlash)),
+        Some(0x0A) => skip_ascii_whitespace(chars),
+        Some(0x78) => item(scan_hex(chars)),
+        Some(0x75) => item(scan_unicode(chars, mode)),
+        Some(c) => item(simple(c)),
     }
 }
 
-// One turn over a body of Str, BitStr or ByteStr.
-fn unescape_str_common(text: &[u8], at: usize, mode: Mode) -> Step
-    requires { at < length text.now }
-    ensures { Stepped (on_first (str_common (length text.now) (ascii_only mode)) (left text.now at)) text.now at result }
+// Behind a character c of Str, BitStr or ByteStr.
+fn unescape_str_common(chars: &mut Chars<'_>, c: u32, mode: Mode) -> Step
+    ensures { From (str_common (length chars.old.text.now) (ascii_only mode)) c chars.old.text.now chars.old.at result chars.new.text.now chars.new.at }
 {
-    let d = decode(text, at);
-    let next = at + d.wide;
-    if d.code == 0x5C {
-        return slash(text, next, mode);
+    if c == 0x5C {
+        return slash(chars, mode);
     }
-    item(str_char(d.code, mode), next)
+    item(str_char(c, mode))
 }
 
 fn is_skipped(c: u32) -> bool
@@ -135,39 +118,35 @@ fn eat_skipped(chars: &mut Chars<'_>) -> bool
 }
 
 // Behind a backslash and a newline. A text's end is no white space.
-fn skip_ascii_whitespace(mut chars: Chars<'_>) -> Step
-    ensures { Behind (λ from. skipped (length chars.entry.text.now) from (eat is_skipped saw_lf false (left chars.entry.text.now chars.entry.at))) chars.entry.text.now chars.entry.at result }
+fn skip_ascii_whitespace(chars: &mut Chars<'_>) -> Step
+    ensures { Behind (λ from. skipped (length chars.old.text.now) from (eat is_skipped saw_lf false (left chars.old.text.now chars.old.at))) chars.old.text.now chars.old.at result chars.new.text.now chars.new.at }
 {
-    let lines = eat_skipped(&mut chars);
-    let at = chars.at;
-    let white = chars.next().is_some_and(is_white_space);
+    let lines = eat_skipped(chars);
+    let mut behind = *chars;
+    let white = behind.next().is_some_and(is_white_space);
     Step {
-        at,
         item: lines.then_some(Err(EscapeError::MultipleSkippedLinesWarning)),
-        space: white.then_some(chars.at),
+        space: white.then_some(behind.at),
     }
 }
 
-// One turn over a body of RawStr or RawByteStr.
-fn unescape_raw_str_or_raw_byte_str(text: &[u8], at: usize, mode: Mode) -> Step
-    requires { at < length text.now }
-    ensures { Stepped (on_first (raw_str (length text.now) (ascii_only mode)) (left text.now at)) text.now at result }
+// A character of RawStr or RawByteStr.
+#[tactic(auto, unfolding(crate::specs::Bodies::raw_char))]
+fn unescape_raw_str_or_raw_byte_str(c: u32, mode: Mode) -> Result<u32, EscapeError>
+    ensures { outcome_of result ≡ raw_char (ascii_only mode) c }
 {
-    let d = decode(text, at);
-    let next = at + d.wide;
-    if d.code == 0x0D {
-        return item(Err(EscapeError::BareCarriageReturnInRawString), next);
+    match c {
+        0x0D => Err(EscapeError::BareCarriageReturnInRawString),
+        _ => ascii_check(c, mode),
     }
-    item(ascii_check(d.code, mode), next)
 }
 
-// One turn over a body of any mode but Char and Byte.
-pub fn turn(text: &[u8], at: usize, mode: Mode) -> Step
-    requires { at < length text.now }
-    ensures { Stepped (on_first (turn (mode_number mode) (length text.now)) (left text.now at)) text.now at result }
+// Behind a character c of a body of any mode but Char and Byte.
+pub fn turn(chars: &mut Chars<'_>, c: u32, mode: Mode) -> Step
+    ensures { From (turn (mode_number mode) (length chars.old.text.now)) c chars.old.text.now chars.old.at result chars.new.text.now chars.new.at }
 {
     if mode.is_raw() {
-        return unescape_raw_str_or_raw_byte_str(text, at, mode);
+        return item(unescape_raw_str_or_raw_byte_str(c, mode));
     }
-    unescape_str_common(text, at, mode)
+    unescape_str_common(chars, c, mode)
 }

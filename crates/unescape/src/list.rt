@@ -45,9 +45,9 @@ fn walk_single(body: &[u8], mode: Mode, list: &mut [u32]) -> usize
     requires { (length body.now ≤ longest) × (0 < length list.old → 3 ≤ length list.old) }
     ensures { Walked (one (length body.now) (chars body.now) (char_or_byte (ascii_only mode) (chars body.now))).0 list.old result list.new }
 {
-    let mut chars = Chars { text: body, at: 0 };
-    let read = unescape_char_or_byte(&mut chars, mode);
-    put(list, 0, 0, chars.at, read)
+    let mut one = Chars { text: body, at: 0 };
+    let read = unescape_char_or_byte(&mut one, mode);
+    put(list, 0, 0, one.at, read)
 }
 
 // The items of a body of any other mode.
@@ -55,17 +55,18 @@ fn walk_turns(body: &[u8], mode: Mode, list: &mut [u32]) -> usize
     requires { (length body.now ≤ longest) × (0 < length list.old → length (flat (turns (mode_number mode) (length body.now) (chars body.now))) ≤ length list.old) }
     ensures { Walked (turns (mode_number mode) (length body.now) (chars body.now)) list.old result list.new }
 {
-    let mut at: usize = 0;
-    let mut n: usize = 0;
-    while at < body.len() {
-        let step = turn(body, at, mode);
+    let mut chars = Chars { text: body, at: 0 };
+    let mut start = 0;
+    let mut n = 0;
+    while let Some(c) = chars.next() {
+        let step = turn(&mut chars, c, mode);
         if let Some(read) = step.item {
-            n = put(list, n, at, step.at, read);
+            n = put(list, n, start, chars.at, read);
         }
         if let Some(past) = step.space {
-            n = put(list, n, at, past, Err(EscapeError::UnskippedWhitespaceWarning));
+            n = put(list, n, start, past, Err(EscapeError::UnskippedWhitespaceWarning));
         }
-        at = step.at;
+        start = chars.at;
     }
     n
 }

@@ -1,11 +1,16 @@
-use Rattle.unescape.proofs.Whole.{Walking}
+use mathlib.Core.Path.{◌≡◌}
 use lib.ListN.{length}
 use Prim.Native.Nat.{◌-◌}
 use Rattle.modes.specs.Numbers.{mode_number}
+use Rattle.unescape.proofs.Whole.{Walking}
 use Rattle.unescape.proofs.list.walk_turns.Given as goal
 
-abbrev pub invariant-loop-at : goal.invariant-loop-at
-invariant-loop-at l = Walking (mode_number l.mode) l.body l.initial.list l.at l.n l.list
+abbrev pub invariant-loop-c : goal.invariant-loop-c
+invariant-loop-c l = record {
+  same : l.chars.text.now ≡ l.body;
+  from : l.start ≡ l.chars.at;
+  walking : Walking (mode_number l.mode) l.body l.initial.list l.start l.n l.list;
+}
 
-abbrev pub decreases-loop-at : goal.decreases-loop-at
-decreases-loop-at l = length l.body - l.at
+abbrev pub decreases-loop-c : goal.decreases-loop-c
+decreases-loop-c l = length l.body - l.chars.at
