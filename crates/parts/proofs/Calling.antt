@@ -1,14 +1,14 @@
 -- A CALL: what its checks say, what its passes come to, and what is handed back, for every value of the lexer.
 -- Assumes nothing.
-use Prim.Native.Nat.{ℕ, ◌+◌, ◌-◌, ◌*◌, ◌/◌, ◌≤◌, ◌<◌}
+use Prim.Native.Nat.{ℕ, ◌+◌, ◌-◌, ◌/◌, ◌≤◌}
 use mathlib.Core.Path.{◌≡◌, refl, ap, sym, ◌∙◌}
 use mathlib.Core.Bool.{Bool, true, false, not, cond, ◌||◌}
 use mathlib.Core.List.{List, [], ◌∷◌, ◌++◌}
 use native.Mathlib.Omega.{arith}
 use lib.Dec.{eqb, ltb}
-use Rattle.std.specs.Prelude.{Result, Ok, Err}
+use Rattle.std.specs.Prelude.{Ok, Err}
 use lib.ListN.{length, take, drop, length-append, length-take, length-drop}
-use borrow.Author.Tests.{eqb-true, eq-eqb, ne_eqb, lt-ltb, le-ltb, ltb-false, not-false}
+use borrow.Author.Tests.{eqb-true, le-ltb, ltb-false, not-false}
 use Rattle.lists.specs.Over.{over}
 use Rattle.lists.proofs.Bools.{by_test}
 use Rattle.lists.proofs.Store.{stored_front}
@@ -16,21 +16,20 @@ use Rattle.characters.specs.Utf8.{chars, valid_up_to}
 use Rattle.characters.specs.Text.{byte_length}
 use Rattle.characters.proofs.Text.{bytes_chars, bytes_append}
 use Rattle.characters.proofs.Valid.{valid_within}
-use Rattle.text.specs.Answer.{done, unknown_selector, too_long, not_utf8, room_too_small, direction_mark, longest, check_room, ◌and_then◌}
+use Rattle.text.specs.Answer.{done, unknown_selector, too_long, longest, check_room, ◌and_then◌}
 use Rattle.cutters.specs.Records.{record_words}
 use Rattle.lexer.specs.Cut.{Letters}
 use Rattle.lexer.specs.Unicode.{unicode}
 use Rattle.feeding.specs.Fed.{Rec, words, State, idle, finish}
 use Rattle.feeding.specs.Begun.{whole, beyond, fault_of}
-use Rattle.feeding.specs.Lexer.{Lexer, started, taken, running}
+use Rattle.feeding.specs.Lexer.{Lexer, taken, running}
 use Rattle.feeding.specs.Call.{not_open, known_in_parts, fed_to, given, fed_all, next_begun, answer, early, places, sequence, there, up_to, keeps, accepted, next_carry, next_list}
 use Rattle.feeding.proofs.Begun.{whole_long}
 use Rattle.feeding.proofs.Refusals.{then_done, cond_not, neither, no_fault}
 use Rattle.feeding.proofs.Running.{Runs, from_running, to_fits, runs_short, all_fed}
 use Rattle.feeding.proofs.Tiles.{Early, few_fed, few_last, next_within, given_early}
 use Rattle.feeding.proofs.Carry.{places_long, up_more, up_stop, kept_long}
-use Rattle.phases.specs.Codec.{flag_number}
-use Rattle.parts.specs.Coded.{state_of, packed_pend, meaning, packed, ended_lexer, no_machine, packed_machine}
+use Rattle.parts.specs.Coded.{state_of, packed_pend, meaning, packed}
 use Rattle.parts.specs.Promises.{next_of, Called}
 use Rattle.parts.specs.Refusals.{feed_refused}
 use Rattle.parts.specs.Steps.{first_of, passed, PassReady, Gone, behind_as, check_of, Checked, CallReady, AcceptReady, Accepted, Refused, Delivered, Attempted, kept_bytes, Kept, end_in}
@@ -41,8 +40,6 @@ use Rattle.parts.specs.declared.refusals.FeedRefusal.TheVariants.{NotOpen, Text}
 use Rattle.parts.specs.declared.check.Scan.{Scan}
 use Rattle.parts.specs.declared.passes.Went.{Went}
 use Rattle.parts.specs.declared.Lexer as D
-use Rattle.parts.specs.declared.Last.{Last}
-use Rattle.parts.specs.declared.packed.Machine.{Machine}
 use Rattle.parts.specs.declared.pend.Pend.{Pend}
 use Rattle.parts.specs.declared.Fed.{Fed}
 use Rattle.parts.proofs.Passing.{words_long, few_chars}
@@ -105,9 +102,6 @@ module _ {x : Lexer} {last : Bool} {chunk : List ℕ} {c : Scan} (k : CallReady 
 
   are : chars (whole b) ≡ fed
   are = k.good.are
-
-  part_long : length part ≡ c.until - c.from
-  part_long = omega (arith, length-take (c.until - c.from) (drop c.from chunk), length-drop c.from chunk, k.good.high, k.good.low)
 
   -- all bytes up to the unfinished character
   sum : byte_length (first_of c.head) + length part ≡ length (whole b)
@@ -206,9 +200,6 @@ module _ {x : D.Lexer} {last : Bool} {chunk : List ℕ} {pend : Pend} {w : Went}
   pub many_is : w.words / record_words ≡ length (given y last chunk)
   many_is = omega (arith, k.many, words_long (given y last chunk))
 
-  pub end_asks : w.words / record_words * record_words ≤ length list
-  end_asks = omega (arith, k.many, ap length k.front, length-append (words (given y last chunk)) k.rest)
-
   module _ {v : ℕ} (e : v ≡ end_in list x.fed x.begun 0 (w.words / record_words)) where
     pub early_is : v ≡ early y last chunk
     early_is = e ∙ rw (many_is, k.front) (end_in_front x.fed x.begun (given y last chunk) k.rest)
@@ -253,12 +244,6 @@ module _ {x : D.Lexer} {last : Bool} {chunk : List ℕ} {pend : Pend} {w : Went}
               none [] h = refl
               none (a ∷ l) h = absurd (omega (arith, h))
           by false e = rw e
-
-  pub fed_fits : x.fed + length chunk ≤ longest
-  fed_fits = k.short
-
-  pub chunk_small : length chunk ≤ longest
-  chunk_small = omega (arith, k.short)
 
   pub begun_within : x.begun ≤ x.fed
   begun_within = omega (arith, goes.all)

@@ -2,15 +2,14 @@
 -- Assumes nothing.
 use Prim.Native.Nat.{ℕ, ◌+◌, ◌-◌, ◌≤◌, ◌<◌}
 use mathlib.Core.Path.{◌≡◌, refl, sym, ap, ◌∙◌}
-use mathlib.Core.Bool.{Bool, true, false, not, cond, ◌||◌, ◌&&◌, false≢true}
+use mathlib.Core.Bool.{Bool, true, false, not, cond, ◌||◌, false≢true}
 use mathlib.Core.List.{List, [], ◌∷◌, ◌++◌}
-use native.Mathlib.Decide.{ℕ_discrete}
 use native.Mathlib.Omega.{arith}
 use lib.Dec.{eqb}
 use Rattle.std.specs.Prelude.{Option, None, Some, Result, Ok, Err}
-use lib.ListN.{length, take, drop, length-append, length-take, length-drop, drop_of_length-le}
+use lib.ListN.{length, take, drop, length-append, length-drop, drop_of_length-le}
 use lib.Seq.{take_all, drop-drop, drop-append-add}
-use borrow.Author.Tests.{lt-ltb, le-ltb, lt-leb, ltb-true, ltb-false, eq-eqb, ne_eqb, eqb-true, not-true, not-false}
+use borrow.Author.Tests.{lt-ltb, le-ltb, lt-leb, ltb-true, ltb-false, ne_eqb, eqb-true, not-false}
 use Rattle.lists.specs.All.{all}
 use Rattle.lists.proofs.Cut.{by_length}
 use Rattle.lists.proofs.Bools.{by_test, and_false}
@@ -22,16 +21,15 @@ use Rattle.characters.proofs.First.{fine}
 use Rattle.characters.proofs.Text.{chars_nil, chars_first}
 use Rattle.characters.proofs.Valid.{good, beginning, read_all, valid_within}
 use Rattle.characters.proofs.Direction.{clean_first, marked_before}
-use Rattle.text.specs.Answer.{done, unknown_selector, too_long, not_utf8, direction_mark, longest}
+use Rattle.text.specs.Answer.{done, not_utf8, direction_mark, longest}
 use Rattle.feeding.specs.Begun.{whole, beyond, fault_of}
-use Rattle.feeding.specs.Lexer.{fits, taken, running}
-use Rattle.feeding.specs.Call.{not_open}
+use Rattle.feeding.specs.Lexer.{running}
 use Rattle.feeding.proofs.Begun.{whole_long}
 use Rattle.feeding.proofs.Running.{Runs, from_running}
 use Rattle.feeding.proofs.Unfinished.{unfinished_short, unfinished_none}
 use Rattle.phases.specs.Codec.{flag}
-use Rattle.parts.specs.Coded.{pend_of, packed_pend, machine_of, meaning}
-use Rattle.parts.specs.Steps.{HeadIs, WholeHead, ShortHead, BadHead, RestScanned, Scanned, Checked, check_of}
+use Rattle.parts.specs.Coded.{pend_of, packed_pend, meaning}
+use Rattle.parts.specs.Steps.{HeadIs, WholeHead, ShortHead, BadHead, RestScanned, Scanned, check_of}
 use Rattle.parts.specs.declared.pend.Pend.{Pend}
 use Rattle.parts.specs.declared.pend.Head as H
 use Rattle.parts.specs.declared.pend.Head.TheVariants as Y
@@ -225,20 +223,13 @@ module _ (last : Bool) (fed : ℕ) (chunk : List ℕ) (from : ℕ) {clean : ℕ}
   rest_short o = rw (tail_is o.upto) (open_short last o)
 
   pub rest_good : {head : Option ℕ} {q : Pend} → Open last (drop from chunk) clean → q ≡ packed_pend (part chunk (from + clean)) → RestScanned last fed chunk from head (Ok (record { head = head; from = from; until = from + clean; pend = q }))
-  rest_good o p =
-      (
-        fault_none last (fed + from) (drop from chunk) o.free o.goes,
-        record { head_is = refl; from_is = refl; until_is = ap (λ (k : ℕ). from + k) o.upto; rest = p ∙ ap packed_pend (tail_is o.upto) }
-      )
+  rest_good o p = (
+    fault_none last (fed + from) (drop from chunk) o.free o.goes,
+    record { head_is = refl; from_is = refl; until_is = ap (λ (k : ℕ). from + k) o.upto; rest = p ∙ ap packed_pend (tail_is o.upto) },
+  )
 
 -- ---- by what the first character is
 module _ (pend chunk : List ℕ) (h : H.Head) (i : HeadIs pend chunk h) where
-  pub is_whole : (code from : ℕ) → h ≡ Y.Whole code from → WholeHead pend chunk code from
-  is_whole code from e = rw e at i
-
-  pub is_short : (q : Pend) → h ≡ Y.Short q → ShortHead pend chunk q
-  is_short q e = rw e at i
-
   pub is_bad : h ≡ Y.Bad → BadHead pend chunk
   is_bad e = rw e at i
 
@@ -290,15 +281,14 @@ module _ {pend chunk : List ℕ} {code from : ℕ} (w : WholeHead pend chunk cod
     scanned_rest h (Ok c) s =
         let g = s.1 in
         let v = valid_up_to (drop from chunk) in
-        let k : c.until - c.from ≡ v = omega (arith, g.until_is, g.from_is) in
-        (
+        let k : c.until - c.from ≡ v = omega (arith, g.until_is, g.from_is) in (
           to_rest h ∙ s.0,
           record {
             low = omega (arith, g.until_is, g.from_is);
             high = omega (arith, g.until_is, valid_within (drop from chunk), length-drop from chunk, w.within);
             are = whole_head ∙ rw (k, g.head_is, g.from_is);
             rest = g.rest ∙ ap packed_pend (sym beyond_head);
-          }
+          },
         )
 
 -- ---- bytes none of which is a whole character
@@ -339,15 +329,14 @@ module _ (last : Bool) (fed : ℕ) (pend chunk : List ℕ) (l : 0 < length pend)
 module _ (last : Bool) (at : ℕ) {pend chunk : List ℕ} {q : Pend} (h : ShortHead pend chunk q) where
   pub scanned_short : last ≡ false → Scanned last at pend chunk (Ok (record { head = None; from = length chunk; until = length chunk; pend = q }))
   scanned_short t =
-      let z : length chunk - length chunk ≡ 0 = omega arith in
-      (
+      let z : length chunk - length chunk ≡ 0 = omega arith in (
         none_good (pend ++ chunk) (none_whole h) last at (rw t h.short),
         record {
           low = omega arith;
           high = omega arith;
           are = rw (no_whole (pend ++ chunk) (none_whole h), z);
           rest = h.same ∙ ap packed_pend (sym (all_beyond (pend ++ chunk) (none_whole h)));
-        }
+        },
       )
 
 -- ---- where nothing is pending
@@ -357,22 +346,18 @@ rest_all last fed chunk (Ok c) s =
     let z : fed + 0 ≡ fed - 0 = omega arith in
     let g = s.1 in
     let u : c.until ≡ valid_up_to chunk = omega (arith, g.until_is) in
-    let k : c.until - c.from ≡ valid_up_to chunk = omega (arith, u, g.from_is) in
-    (
+    let k : c.until - c.from ≡ valid_up_to chunk = omega (arith, u, g.from_is) in (
       rw z at s.0,
       record {
         low = omega (arith, g.from_is);
         high = omega (arith, u, valid_within chunk);
         are = rw (k, g.head_is, g.from_is);
         rest = g.rest;
-      }
+      },
     )
 
 pub scanned_none : (p : Pend) (last : Bool) (fed : ℕ) (chunk : List ℕ) (r : Result Scan Refusal) → p.count ≡ 0 → RestScanned last fed chunk 0 None r → Scanned last (fed - length (pend_of p)) (pend_of p) chunk r
 scanned_none p last fed chunk r e s = rw e (rest_all last fed chunk r s)
-
-pub pend_some : (p : Pend) → (p.count ≡ 0 → ⊥) → 0 < length (pend_of p)
-pend_some p h = omega (arith, length-take p.count (p.one ∷ p.two ∷ p.three ∷ []), h)
 
 -- what runs is open, and has been fed what is pending
 pub open_runs : (x : Lexer) → (flag x.over || not (running (meaning x))) ≡ false → Runs (meaning x)
@@ -381,3 +366,8 @@ open_runs x h = from_running (meaning x) (either (flag x.over) (running (meaning
     either : (a b : Bool) → (a || not b) ≡ false → b ≡ true
     either true b h = absurd (false≢true (sym h))
     either false b h = not-false b h
+
+-- what is refused first is not
+pub check_so : (x : Lexer) (last : Bool) (chunk : List ℕ) → (flag x.over || not (running (meaning x))) ≡ false → x.profile < 2 → x.fed ≤ longest → length chunk ≤ longest - x.fed → check_of (meaning x) last chunk ≡ fault_of last (x.fed - length (pend_of x.pend)) (pend_of x.pend ++ chunk)
+unfolding check_of
+check_so x last chunk o g f l = rw (o, lt-ltb x.profile 2 g, le-ltb longest (x.fed + length chunk) (omega arith))

@@ -9,11 +9,11 @@ use mathlib.Core.Path.{◌≡◌, refl, ap, sym, ◌∙◌}
 use mathlib.Core.Bool.{Bool, true, false}
 use mathlib.Core.List.{List, [], ◌∷◌, ◌++◌}
 use lib.Dec.{ltb}
-use lib.ListN.{length, take, drop, get_or, set, length-take, length-drop, length-set, length-append, take-append-drop}
+use lib.ListN.{length, take, drop, get_or, length-take, length-drop, length-append}
 use borrow.Rule.Slice.PartMut.{put_mid}
 use Rattle.std.proofs.lemmas.List.{take_min, drop_min}
 use Rattle.parts.proofs.Stores.{written}
-use lib.Seq.{paste, sets, drop-cons, drop-drop, take-suc, take-suc-set, drop-set-lt, get_or-drop, take_all, take-nil, take-append-le, take-append-add, length-take-le, length-sets}
+use lib.Seq.{sets, drop-drop, get_or-drop, take_all, take-append-le, take-append-add, length-take-le, length-sets}
 use borrow.Author.Tests.{lt-ltb, le-ltb, ltb-true, ltb-false}
 use Rattle.lists.specs.Over.{over}
 use Rattle.lists.proofs.Put.{sets_append}
@@ -48,9 +48,6 @@ module _ (list : List ℕ) (place : ℕ) where
   pub record Ending (from count e i : ℕ) : Type 0 where
     pub within : i ≤ count
     pub same : end_in list place e i (count - i) ≡ end_in list place from 0 count
-
-  pub ending_none : (from count : ℕ) → Ending from count from 0
-  ending_none from count = let z : count - 0 ≡ count = omega arith in record { within = omega arith; same = rw z }
 
   module _ {from count e i : ℕ} (s : Ending from count e i) where
     left : i < count → end_in list place e i (suc (count - (i + 1))) ≡ end_in list place from 0 count
@@ -95,25 +92,7 @@ module _ (place e : ℕ) (rs : List Rec) where
   pub end_in_front : (t : List ℕ) → end_in (words rs ++ t) place e 0 (length rs) ≡ end_before place e rs
   end_in_front t = end_from (words rs ++ t) t place e 0 rs refl
 
-  pub end_in_lem : (list : List ℕ) → take (length (words rs)) list ≡ words rs → end_in list place e 0 (length rs) ≡ end_before place e rs
-  end_in_lem list h =
-      let n = length (words rs) in
-      end_from list (drop n list) place e 0 rs (sym (take-append-drop n list) ∙ ap (λ (l : List ℕ). l ++ drop n list) h)
-
-  -- where they have been stored at the front
-  pub end_in_put : (list : List ℕ) {list' : List ℕ} → list' ≡ sets list 0 (words rs) → length (words rs) ≤ length list → end_in list' place e 0 (length rs) ≡ end_before place e rs
-  end_in_put list h l = rw (stored_front (words rs) list h l) (end_in_front (drop (length (words rs)) list))
-
 -- ---- bytes moved to the front
-pub moved_is : (carry : List ℕ) (from n m : ℕ) → m ≡ n → n ≤ length carry - from → paste carry 0 (drop from carry) m ≡ over (take n (drop from carry)) carry
-moved_is carry from n m e h =
-    let l : length (take n (drop from carry)) ≡ n = length-take-le n (drop from carry) (omega (arith, length-drop from carry)) in
-    let z : 0 + n ≡ n = omega arith in
-    rw (e, l, z)
-
-pub moved_none : (carry : List ℕ) (from n : ℕ) → n ≤ 0 → carry ≡ over (take n (drop from carry)) carry
-moved_none carry from n h = let z : n ≡ 0 = omega arith in rw z
-
 -- ---- bytes copied, as many as there is room for
 pub copied_is : (carry bytes : List ℕ) (k n : ℕ) {vs : List ℕ} → k ≤ length carry → n ≡ min (length bytes) (length carry - k) → vs ≡ take n bytes → Copied carry k bytes (k + n) (put_mid k (k + n - k) carry vs)
 copied_is carry bytes k n {vs} h e f =

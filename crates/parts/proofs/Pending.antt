@@ -1,13 +1,13 @@
 -- The bytes of a character that is not finished, and what they become with a chunk behind them, as `search` takes the laws.
 -- Assumes nothing.
-use Prim.Native.Nat.{ℕ, ◌+◌, ◌-◌, ◌≤◌, ◌<◌, min}
+use Prim.Native.Nat.{ℕ, ◌+◌, ◌-◌, ◌≤◌, ◌<◌}
 use mathlib.Core.Path.{◌≡◌, refl, sym, ap, ◌∙◌}
 use mathlib.Core.Bool.{Bool, true, false}
 use mathlib.Core.List.{List, [], ◌∷◌, ◌++◌}
 use native.Mathlib.Decide.{dec_le}
 use native.Mathlib.Omega.{arith}
-use lib.ListN.{length, take, drop, get_or, length-take, length-append, take-append-drop, get_or-eq_default, get_or-append}
-use lib.Seq.{get_or-take, get_or-append-add, take-append-le, drop-append-add}
+use lib.ListN.{length, take, drop, get_or, length-append, take-append-drop}
+use lib.Seq.{take-append-le, drop-append-add}
 use borrow.Author.Tests.{lt-ltb, le-ltb}
 use Rattle.characters.specs.Utf8.{first, width, bytes_before, valid_up_to}
 use Rattle.characters.specs.Unfinished.{unfinished}

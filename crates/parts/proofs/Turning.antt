@@ -3,7 +3,7 @@
 use Prim.Native.Nat.{ℕ, ◌+◌, ◌≤◌}
 use mathlib.Core.Path.{◌≡◌, ap, sym, ◌∙◌}
 use mathlib.Core.Bool.{Bool, cond}
-use mathlib.Core.List.{List, [], ◌∷◌}
+use mathlib.Core.List.{[], ◌∷◌}
 use native.Mathlib.Nat.{add-zero}
 use native.Mathlib.Omega.{arith}
 use borrow.Author.Tests.{lt-ltb}
@@ -12,7 +12,6 @@ use Rattle.characters.specs.Utf8.{width}
 use Rattle.characters.proofs.Valid.{width_some}
 use Rattle.text.specs.Answer.{longest}
 use Rattle.lexer.specs.Cut.{Letters}
-use Rattle.locality.specs.Machine as M
 use Rattle.locality.specs.Phases as P
 use Rattle.feeding.specs.Tracker as T
 use Rattle.feeding.specs.Fed.{idle, busy, held, ended, feed, last_of}

@@ -7,7 +7,7 @@ use Rattle.lists.specs.Steps.{PutIf}
 use Rattle.characters.specs.Utf8.{chars, width, valid_up_to}
 use Rattle.characters.specs.Unfinished.{unfinished}
 use Rattle.characters.specs.Text.{byte_length}
-use Rattle.text.specs.Answer.{Answered, done, unknown_selector, too_long, not_utf8, direction_mark, longest, check_room, ◌and_then◌}
+use Rattle.text.specs.Answer.{done, unknown_selector, too_long, not_utf8, direction_mark, longest, check_room, ◌and_then◌}
 use Rattle.cutters.specs.Records.{record_words}
 use Rattle.lexer.specs.Cut.{Letters}
 use Rattle.locality.specs.Machine.{eats, halts}
@@ -245,7 +245,11 @@ pub record CallReady (x : Lexer) (last : Bool) (chunk : List ℕ) (c : Scan) : T
   pub whole : (last ≡ true → length (beyond (x.pend ++ chunk)) ≡ 0)
   pub good : Good x.pend chunk c
 
--- its records are stored, and the machine is behind them
+-- its records, and where the machine is behind them
+abbrev pub handed_out : Lexer → Bool → List ℕ → List Rec × (State × ℕ)
+handed_out x last chunk = (given x last chunk, (cond last idle (fed_to x last chunk).1.0, next_begun x last chunk))
+
+-- these are stored, and the machine is behind them
 pub record AcceptReady (x : D.Lexer) (last : Bool) (chunk : List ℕ) (pend : Pend) (w : Went) (list : List ℕ) : Type 0 where
   pub runs : running (meaning x) ≡ true
   pub short : fed_all (meaning x) last chunk ≤ longest

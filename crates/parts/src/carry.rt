@@ -4,6 +4,7 @@ ghost use Rattle.lists.specs.Over.{over};
 ghost use Rattle.cutters.specs.Records.{record_words};
 ghost use Rattle.parts.specs.Steps.{end_in, Copied, kept_bytes, Kept};
 
+use crate::Last;
 use cutters::RECORD;
 
 // The end of the last of so many records of a list that start before a place; `from`, where there is none.
@@ -43,20 +44,21 @@ fn copy_in(carry: &mut [u8], k: usize, bytes: &[u8]) -> usize
     k + n
 }
 
-// `old` bytes were fed and not handed out before the chunk; they stand behind `packed` others, and `kept` are kept in all. Behind them go the bytes of
+// `old` bytes were fed and not handed out before the chunk; as the last call left the carry, they stand there behind others. Behind them go the bytes of
 // the chunk but those between `front` and `back`. How many are kept now.
 pub fn keep(
     carry: &mut [u8],
     chunk: &[u8],
+    last: Last,
     old: usize,
-    packed: usize,
-    kept: usize,
     front: usize,
     back: usize,
 ) -> usize
     requires { front ≤ length chunk.now }
-    ensures { Kept (kept_bytes carry.old chunk.now old packed kept front back) carry.old result carry.new }
+    ensures { Kept (kept_bytes carry.old chunk.now old last.packed last.kept front back) carry.old result carry.new }
 {
+    let packed = last.packed as usize;
+    let kept = last.kept as usize;
     let there = old.min(kept.min(carry.len()).saturating_sub(packed));
     move_down(carry, packed, there);
     if there < old {

@@ -7,10 +7,10 @@ ghost use Rattle.phases.specs.Codec.{flag};
 ghost use Rattle.parts.specs.Coded.{pend_of, meaning};
 ghost use Rattle.parts.specs.Steps.{RestScanned, Scanned, Checked};
 
-use crate::Lexer;
 use crate::pend::{Head, Pend};
 use crate::refusals::FeedRefusal;
 use crate::state::State;
+use crate::{Call, Lexer};
 use characters::utf8::{NO_CHAR, clean_up_to, decode, is_direction, is_unfinished};
 use text::Refusal;
 
@@ -26,92 +26,94 @@ pub struct Scan {
 // The profiles that can be fed in parts: those of OpenQASM 3.
 const PROFILES: u32 = 2;
 
-// The chunk from a place on, of a text that has `fed` bytes before the chunk.
-fn scan_rest(
-    fed: u32,
-    last: bool,
-    chunk: &[u8],
-    from: usize,
-    head: Option<u32>,
-) -> Result<Scan, Refusal>
-    requires { (from ≤ length chunk.now) × (fed + length chunk.now ≤ longest) }
-    ensures { RestScanned last fed chunk.now from head result }
-{
-    let rest = &chunk[from..];
-    let clean = clean_up_to(rest);
-    let until = from + clean;
-    let place = fed as usize + until;
-    if until < chunk.len() {
-        let d = decode(rest, clean);
-        if d.code < NO_CHAR {
-            return Err(Refusal::DirectionMark(place));
+impl Call<'_> {
+    // The chunk from a place on.
+    fn scan_rest(self, from: usize, head: Option<u32>) -> Result<Scan, Refusal>
+        requires { (from ≤ length self.chunk.now) × (self.lexer.fed + length self.chunk.now ≤ longest) }
+        ensures { RestScanned self.entry.last self.entry.lexer.fed self.entry.chunk.now from head result }
+    {
+        let rest = &self.chunk[from..];
+        let clean = clean_up_to(rest);
+        let until = from + clean;
+        let place = self.lexer.fed as usize + until;
+        let tail = &self.chunk[until..];
+        if until < self.chunk.len() {
+            let d = decode(rest, clean);
+            if d.code < NO_CHAR {
+                return Err(Refusal::DirectionMark(place));
+            }
+            if self.last || !is_unfinished(tail) {
+                return Err(Refusal::NotUtf8(place));
+            }
         }
-        if last || !is_unfinished(&chunk[until..]) {
-            return Err(Refusal::NotUtf8(place));
+        Ok(Scan {
+            head,
+            from,
+            until,
+            pend: Pend::holding(tail),
+        })
+    }
+
+    // Behind the bytes of a character that is not finished.
+    fn scan_head(self) -> Result<Scan, Refusal>
+        requires { (unfinished (pend_of self.lexer.pend) ≡ true) × (0 < length (pend_of self.lexer.pend)) × (length (pend_of self.lexer.pend) ≤ self.lexer.fed) × (self.lexer.fed + length self.chunk.now ≤ longest) }
+        ensures { Scanned self.entry.last (self.entry.lexer.fed - length (pend_of self.entry.lexer.pend)) (pend_of self.entry.lexer.pend) self.entry.chunk.now result }
+    {
+        let pend = self.lexer.pend;
+        let place = self.lexer.fed as usize - pend.len();
+        match pend.head(self.chunk) {
+            Head::Whole { code, .. } if is_direction(code) => Err(Refusal::DirectionMark(place)),
+            Head::Whole { code, from } => self.scan_rest(from, Some(code)),
+            Head::Short(pend) if !self.last => Ok(Scan {
+                head: None,
+                from: self.chunk.len(),
+                until: self.chunk.len(),
+                pend,
+            }),
+            _ => Err(Refusal::NotUtf8(place)),
         }
     }
-    Ok(Scan {
-        head,
-        from,
-        until,
-        pend: Pend::holding(&chunk[until..]),
-    })
+
+    fn scan(self) -> Result<Scan, Refusal>
+        requires { (unfinished (pend_of self.lexer.pend) ≡ true) × (length (pend_of self.lexer.pend) ≤ self.lexer.fed) × (self.lexer.fed + length self.chunk.now ≤ longest) }
+        ensures { Scanned self.entry.last (self.entry.lexer.fed - length (pend_of self.entry.lexer.pend)) (pend_of self.entry.lexer.pend) self.entry.chunk.now result }
+    {
+        if self.lexer.pend.count == 0 {
+            return self.scan_rest(0, None);
+        }
+        self.scan_head()
+    }
+
+    // The refusals in their order.
+    #[tactic(auto, unfolding(crate::specs::Steps::check_of))]
+    pub fn check(self) -> Result<Scan, FeedRefusal>
+        ensures { Checked (meaning self.entry.lexer) self.entry.last self.entry.chunk.now result }
+    {
+        let lexer = self.lexer;
+        if !lexer.is_running() {
+            return Err(FeedRefusal::NotOpen);
+        }
+        if PROFILES <= lexer.profile {
+            return Err(FeedRefusal::Text(Refusal::UnknownSelector));
+        }
+        if text::LONGEST - (lexer.fed as usize) < self.chunk.len() {
+            return Err(FeedRefusal::Text(Refusal::TooLong));
+        }
+        Ok(self.scan()?)
+    }
 }
 
-// Behind the bytes of a character that is not finished.
-fn scan_head(p: Pend, fed: u32, last: bool, chunk: &[u8]) -> Result<Scan, Refusal>
-    requires { (unfinished (pend_of p) ≡ true) × (0 < length (pend_of p)) × (length (pend_of p) ≤ fed) × (fed + length chunk.now ≤ longest) }
-    ensures { Scanned last (fed - length (pend_of p)) (pend_of p) chunk.now result }
-{
-    let place = fed as usize - p.len();
-    match p.head(chunk) {
-        Head::Whole { code, .. } if is_direction(code) => Err(Refusal::DirectionMark(place)),
-        Head::Whole { code, from } => scan_rest(fed, last, chunk, from, Some(code)),
-        Head::Short(pend) if !last => Ok(Scan {
-            head: None,
-            from: chunk.len(),
-            until: chunk.len(),
-            pend,
-        }),
-        _ => Err(Refusal::NotUtf8(place)),
+impl Lexer {
+    // Whether a value is a lexer that has not ended: what has been fed is what was handed out, what the machine has eaten, and the bytes behind it.
+    #[tactic(auto, unfolding(feeding::specs::Lexer::running))]
+    fn is_running(self) -> bool
+        ensures { result ≡ not (flag self.over || not (running (meaning self))) }
+    {
+        if self.over != 0 || !self.pend.is_open() {
+            return false;
+        }
+        let state = State::from(self.machine);
+        let place = u64::from(self.begun) + state.taken() + self.pend.len() as u64;
+        state.fits() && place == u64::from(self.fed)
     }
-}
-
-fn scan_all(p: Pend, fed: u32, last: bool, chunk: &[u8]) -> Result<Scan, Refusal>
-    requires { (unfinished (pend_of p) ≡ true) × (length (pend_of p) ≤ fed) × (fed + length chunk.now ≤ longest) }
-    ensures { Scanned last (fed - length (pend_of p)) (pend_of p) chunk.now result }
-{
-    if p.count == 0 {
-        return scan_rest(fed, last, chunk, 0, None);
-    }
-    scan_head(p, fed, last, chunk)
-}
-
-// Whether a value is a lexer that has not ended: what has been fed is what was handed out, what the machine has eaten, and the bytes behind it.
-#[tactic(auto, unfolding(feeding::specs::Lexer::running))]
-fn is_running(x: Lexer) -> bool
-    ensures { result ≡ not (flag x.over || not (running (meaning x))) }
-{
-    if x.over != 0 || !x.pend.is_open() {
-        return false;
-    }
-    let state = State::from(x.machine);
-    state.fits() && u64::from(x.begun) + state.taken() + x.pend.len() as u64 == u64::from(x.fed)
-}
-
-// The refusals in their order.
-#[tactic(auto, unfolding(crate::specs::Steps::check_of))]
-pub fn check(x: Lexer, last: bool, chunk: &[u8]) -> Result<Scan, FeedRefusal>
-    ensures { Checked (meaning x) last chunk.now result }
-{
-    if !is_running(x) {
-        return Err(FeedRefusal::NotOpen);
-    }
-    if PROFILES <= x.profile {
-        return Err(FeedRefusal::Text(Refusal::UnknownSelector));
-    }
-    if text::LONGEST - (x.fed as usize) < chunk.len() {
-        return Err(FeedRefusal::Text(Refusal::TooLong));
-    }
-    Ok(scan_all(x.pend, x.fed, last, chunk)?)
 }

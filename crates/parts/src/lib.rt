@@ -9,7 +9,7 @@ ghost use Rattle.feeding.specs.Call.{given, fed_to, next_begun};
 ghost use Rattle.parts.specs.Coded.{state_of, meaning};
 ghost use Rattle.parts.specs.Promises.{Called, start_of};
 ghost use Rattle.parts.specs.Refusals.{feed_refused};
-ghost use Rattle.parts.specs.Steps.{Gone, behind_as, CallReady, AcceptReady, Accepted, Refused, Roomed, Delivered, Attempted};
+ghost use Rattle.parts.specs.Steps.{Gone, handed_out, behind_as, CallReady, AcceptReady, Accepted, Refused, Roomed, Delivered, Attempted};
 
 mod carry;
 mod check;
@@ -21,7 +21,7 @@ mod refusals;
 mod state;
 
 use carry::{end_before, keep};
-use check::{Scan, check};
+use check::Scan;
 use cutters::RECORD;
 use lexer::Letters;
 use packed::Machine;
@@ -76,155 +76,135 @@ pub fn start(profile: u32) -> Lexer
     }
 }
 
-fn refuse(x: Lexer, refusal: FeedRefusal) -> Fed
-    ensures { Refused x (feed_refused refusal).0 (feed_refused refusal).1 result }
-{
-    let lexer = if refusal.ends() {
-        Lexer { over: 1, ..x }
-    } else {
-        x
-    };
-    Fed {
-        answer: refusal.answer(),
-        lexer,
-    }
-}
-
-// The lexer behind an accepted call.
-fn behind(x: Lexer, last: bool, point: Point, pend: Pend, call: Last) -> Lexer
-    requires { x.fed + call.chunk ≤ longest }
-    ensures { result ≡ behind_as x last (state_of point.state) point.begun pend call }
-{
-    Lexer {
-        profile: x.profile,
-        over: last as u32,
-        machine: Machine::from(point.state),
-        begun: point.begun,
-        pend,
-        fed: x.fed + call.chunk,
-        last: call,
-    }
-}
-
-// The records are stored; the carry follows, and the next state.
-fn accept(
-    x: Lexer,
-    pend: Pend,
+// A call: what is fed to a lexer, and whether that is the end of the text.
+#[derive(Clone, Copy)]
+struct Call<'c> {
+    lexer: Lexer,
+    chunk: &'c [u8],
     last: bool,
-    went: Went,
-    chunk: &[u8],
-    carry: &mut [u8],
-    list: &[u32],
-) -> Fed
-    requires { AcceptReady x last chunk.now pend went list.now }
-    ensures { Accepted (meaning x) last chunk.now carry.old result carry.new }
-{
-    let count = went.words / RECORD;
-    let early = end_before(list, count, x.fed, x.begun);
-    let fed = x.fed as usize;
-    let begun = x.begun as usize;
-    let n = keep(
-        carry,
-        chunk,
-        fed - begun,
-        x.last.packed as usize,
-        x.last.kept as usize,
-        early.saturating_sub(fed),
-        (went.point.begun as usize).saturating_sub(fed),
-    );
-    let call = Last {
-        from: x.begun,
-        until: went.point.begun,
-        place: x.fed,
-        chunk: chunk.len() as u32,
-        carry: carry.len(),
-        packed: (early - begun) as u32,
-        kept: n as u32,
-    };
-    Fed {
-        answer: Answer {
-            number: text::DONE,
-            also: count as u64,
-        },
-        lexer: behind(x, last, went.point, pend, call),
+}
+
+impl Lexer {
+    fn refuse(self, refusal: FeedRefusal) -> Fed
+        ensures { Refused self (feed_refused refusal).0 (feed_refused refusal).1 result }
+    {
+        let lexer = if refusal.ends() {
+            Lexer { over: 1, ..self }
+        } else {
+            self
+        };
+        Fed {
+            answer: refusal.answer(),
+            lexer,
+        }
+    }
+
+    // Behind an accepted call.
+    fn behind(self, ended: bool, point: Point, pend: Pend, call: Last) -> Lexer
+        requires { self.fed + call.chunk ≤ longest }
+        ensures { result ≡ behind_as self ended (state_of point.state) point.begun pend call }
+    {
+        Lexer {
+            profile: self.profile,
+            over: u32::from(ended),
+            machine: Machine::from(point.state),
+            begun: point.begun,
+            pend,
+            fed: self.fed + call.chunk,
+            last: call,
+        }
     }
 }
 
-// A chunk that passed the checks, and the end of the text where it is the last, through the machine.
-fn go(x: Lexer, scan: Scan, last: bool, chunk: &[u8], write: bool, list: &mut [u32]) -> Went
-    requires { (CallReady (meaning x) last chunk.now scan) × (write ≡ true → length (given (meaning x) last chunk.now) ≤ length list.old / record_words) }
-    ensures { Gone (given (meaning x) last chunk.now, (cond last idle (fed_to (meaning x) last chunk.now).1.0, next_begun (meaning x) last chunk.now)) write list.old 0 result list.new }
-{
-    let point = Point {
-        state: State::from(x.machine),
-        begun: x.begun,
-    };
-    let rules = Rules {
-        profile: x.profile,
-        letters: Letters::unicode(),
-    };
-    let text = &chunk[scan.from..scan.until];
-    pass(point, scan.head, text, last, write, list, rules)
-}
-
-// Refuses a room for fewer records than there are. Where there is room for as many as there can be, nothing is counted.
-fn check_room(
-    room: usize,
-    x: Lexer,
-    scan: Scan,
-    last: bool,
-    chunk: &[u8],
-) -> Result<(), Refusal>
-    requires { CallReady (meaning x) last chunk.now scan }
-    ensures { Roomed room (length (given (meaning x) last chunk.now)) result }
-{
-    if chunk.len() + 5 <= room {
-        return Ok(());
+impl Call<'_> {
+    // The chunk, and the end of the text where it is the last, through the machine.
+    fn pass(self, scan: Scan, write: bool, list: &mut [u32]) -> Went
+        requires { (CallReady (meaning self.lexer) self.last self.chunk.now scan) × (write ≡ true → length (given (meaning self.lexer) self.last self.chunk.now) ≤ length list.old / record_words) }
+        ensures { Gone (handed_out (meaning self.entry.lexer) self.entry.last self.entry.chunk.now) write list.old 0 result list.new }
+    {
+        let point = Point {
+            state: State::from(self.lexer.machine),
+            begun: self.lexer.begun,
+        };
+        let rules = Rules {
+            profile: self.lexer.profile,
+            letters: Letters::unicode(),
+        };
+        let text = &self.chunk[scan.from..scan.until];
+        pass(point, scan.head, text, self.last, write, list, rules)
     }
-    let went = go(x, scan, last, chunk, false, &mut []);
-    let need = went.words / RECORD;
-    if room < need {
-        return Err(Refusal::RoomTooSmall(need));
+
+    // Refuses a room for fewer records than there are. Where there is room for as many as there can be, nothing is counted.
+    fn check_room(self, scan: Scan, room: usize) -> Result<(), Refusal>
+        requires { CallReady (meaning self.lexer) self.last self.chunk.now scan }
+        ensures { Roomed room (length (given (meaning self.entry.lexer) self.entry.last self.entry.chunk.now)) result }
+    {
+        if self.chunk.len() + 5 <= room {
+            return Ok(());
+        }
+        let went = self.pass(scan, false, &mut []);
+        let need = went.words / RECORD;
+        if room < need {
+            return Err(Refusal::RoomTooSmall(need));
+        }
+        Ok(())
     }
-    Ok(())
-}
 
-// For a call that passed the checks.
-fn deliver(
-    x: Lexer,
-    scan: Scan,
-    last: bool,
-    chunk: &[u8],
-    carry: &mut [u8],
-    list: &mut [u32],
-) -> Result<Fed, Refusal>
-    requires { CallReady (meaning x) last chunk.now scan }
-    ensures { Delivered x last chunk.now carry.old list.old result carry.new list.new }
-{
-    check_room(list.len() / RECORD, x, scan, last, chunk)?;
-    let went = go(x, scan, last, chunk, true, list);
-    Ok(accept(x, scan.pend, last, went, chunk, carry, list))
-}
+    // The records are stored; the carry follows, and the next state.
+    fn accept(self, pend: Pend, went: Went, carry: &mut [u8], list: &[u32]) -> Fed
+        requires { AcceptReady self.lexer self.last self.chunk.now pend went list.now }
+        ensures { Accepted (meaning self.entry.lexer) self.entry.last self.entry.chunk.now carry.old result carry.new }
+    {
+        let lexer = self.lexer;
+        let count = went.words / RECORD;
+        let early = end_before(list, count, lexer.fed, lexer.begun);
+        let fed = lexer.fed as usize;
+        let begun = lexer.begun as usize;
+        let front = early.saturating_sub(fed);
+        let back = (went.point.begun as usize).saturating_sub(fed);
+        let kept = keep(carry, self.chunk, lexer.last, fed - begun, front, back);
+        let call = Last {
+            from: lexer.begun,
+            until: went.point.begun,
+            place: lexer.fed,
+            chunk: self.chunk.len() as u32,
+            carry: carry.len(),
+            packed: (early - begun) as u32,
+            kept: kept as u32,
+        };
+        Fed {
+            answer: Answer {
+                number: text::DONE,
+                also: count as u64,
+            },
+            lexer: lexer.behind(self.last, went.point, pend, call),
+        }
+    }
 
-fn attempt(
-    x: Lexer,
-    last: bool,
-    chunk: &[u8],
-    carry: &mut [u8],
-    list: &mut [u32],
-) -> Result<Fed, FeedRefusal>
-    ensures { Attempted x last chunk.now carry.old list.old result carry.new list.new }
-{
-    let scan = check(x, last, chunk)?;
-    Ok(deliver(x, scan, last, chunk, carry, list)?)
-}
+    // Where the checks pass.
+    fn deliver(self, scan: Scan, carry: &mut [u8], list: &mut [u32]) -> Result<Fed, Refusal>
+        requires { CallReady (meaning self.lexer) self.last self.chunk.now scan }
+        ensures { Delivered self.entry.lexer self.entry.last self.entry.chunk.now carry.old list.old result carry.new list.new }
+    {
+        self.check_room(scan, list.len() / RECORD)?;
+        let went = self.pass(scan, true, list);
+        Ok(self.accept(scan.pend, went, carry, list))
+    }
 
-fn call(x: Lexer, last: bool, chunk: &[u8], carry: &mut [u8], list: &mut [u32]) -> Fed
-    ensures { Called x last chunk.now carry.old list.old result.answer.number result.answer.also result.lexer carry.new list.new }
-{
-    match attempt(x, last, chunk, carry, list) {
-        Ok(fed) => fed,
-        Err(refusal) => refuse(x, refusal),
+    fn attempt(self, carry: &mut [u8], list: &mut [u32]) -> Result<Fed, FeedRefusal>
+        ensures { Attempted self.entry.lexer self.entry.last self.entry.chunk.now carry.old list.old result carry.new list.new }
+    {
+        let scan = self.check()?;
+        Ok(self.deliver(scan, carry, list)?)
+    }
+
+    fn run(self, carry: &mut [u8], list: &mut [u32]) -> Fed
+        ensures { Called self.entry.lexer self.entry.last self.entry.chunk.now carry.old list.old result.answer.number result.answer.also result.lexer carry.new list.new }
+    {
+        match self.attempt(carry, list) {
+            Ok(fed) => fed,
+            Err(refusal) => self.lexer.refuse(refusal),
+        }
     }
 }
 
@@ -232,12 +212,22 @@ fn call(x: Lexer, last: bool, chunk: &[u8], carry: &mut [u8], list: &mut [u32]) 
 pub fn feed(lexer: Lexer, chunk: &[u8], carry: &mut [u8], list: &mut [u32]) -> Fed
     ensures { Called lexer false chunk.now carry.old list.old result.answer.number result.answer.also result.lexer carry.new list.new }
 {
-    call(lexer, false, chunk, carry, list)
+    let call = Call {
+        lexer,
+        chunk,
+        last: false,
+    };
+    call.run(carry, list)
 }
 
 // The end of the text.
 pub fn finish(lexer: Lexer, carry: &mut [u8], list: &mut [u32]) -> Fed
     ensures { Called lexer true [] carry.old list.old result.answer.number result.answer.also result.lexer carry.new list.new }
 {
-    call(lexer, true, &[], carry, list)
+    let call = Call {
+        lexer,
+        chunk: &[],
+        last: true,
+    };
+    call.run(carry, list)
 }

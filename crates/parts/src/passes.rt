@@ -48,13 +48,7 @@ impl Went {
     }
 
     // One character, where there is one.
-    fn feed_head(
-        self,
-        head: Option<u32>,
-        write: bool,
-        list: &mut [u32],
-        rules: Rules<'_>,
-    ) -> Went
+    fn feed_head(self, head: Option<u32>, write: bool, list: &mut [u32], rules: Rules<'_>) -> Went
         requires { HeadReady (letters_in rules.letters) rules.profile self head write list.old }
         ensures { Gone (feeds (letters_in rules.entry.letters) rules.entry.profile self.point.begun (state_of self.point.state) (first_of head)) write list.old self.words result list.new }
     {

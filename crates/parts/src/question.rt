@@ -62,13 +62,7 @@ fn is_asked(x: Lexer, chunk: usize, carry: usize, start: usize, len: usize) -> b
 }
 
 // By the lengths of the chunk and the carry that are lent.
-fn find(
-    x: Lexer,
-    chunk: usize,
-    carry: usize,
-    start: usize,
-    len: usize,
-) -> Result<Spot, TextRefusal>
+fn find(x: Lexer, chunk: usize, carry: usize, start: usize, len: usize) -> Result<Spot, TextRefusal>
     ensures { Found x chunk carry start len result }
 {
     if !is_asked(x, chunk, carry, start, len) {
@@ -80,7 +74,9 @@ fn find(
         return Ok(Spot::Chunk(start - place));
     }
     let at = start - last.from as usize;
-    let kept = (last.packed as usize).min(last.kept as usize).min(last.carry);
+    let kept = (last.packed as usize)
+        .min(last.kept as usize)
+        .min(last.carry);
     if kept < at + len {
         return Err(TextRefusal::NotKept);
     }

@@ -1,5 +1,5 @@
 use Rattle.parts.proofs.Checking.{is_bad, scanned_mark, scanned_rest, scanned_bad, scanned_last, scanned_short}
-use Rattle.parts.proofs.check.scan_head.Goals as goal
+use Rattle.parts.proofs.Call.scan_head.Goals as goal
 
 pub returns-in-Whole : goal.returns-in-Whole
 returns-in-Whole c = scanned_mark c.in-Whole.ensures _ _ c.is_direction.ensures c.requires.2 c.if-is_direction.true c.len.ensures
@@ -8,10 +8,10 @@ pub returns-in-Whole-2 : goal.returns-in-Whole-2
 returns-in-Whole-2 c = scanned_rest c.in-Whole.ensures _ _ c.is_direction.ensures c.requires.2 c.if-is_direction.false _ c.scan_rest.ensures
 
 pub returns-in-Short : goal.returns-in-Short
-returns-in-Short c = scanned_short _ _ c.in-Short.ensures c.if-not-last.true
+returns-in-Short c = scanned_short _ _ c.in-Short.ensures c.if-not-self.true
 
 pub returns-in_default : goal.returns-in_default
-returns-in_default c = scanned_last _ _ _ _ c.requires.1 c.len.ensures c.in-Short.ensures c.if-not-last.false
+returns-in_default c = scanned_last _ _ _ _ c.requires.1 c.len.ensures c.in-Short.ensures c.if-not-self.false
 
 pub returns-in_default-2 : goal.returns-in_default-2
 returns-in_default-2 c = scanned_bad _ _ _ _ c.requires.1 c.len.ensures (is_bad _ _ _ c.head.ensures c.in_default.is)

@@ -1,5 +1,5 @@
 use Rattle.parts.proofs.Calling.{call_stored, call_refused}
-use Rattle.parts.proofs.call.Goals as goal
+use Rattle.parts.proofs.Call.run.Goals as goal
 
 pub returns-in-Ok : goal.returns-in-Ok
 returns-in-Ok c = call_stored _ _ _ _ _ _ _ _ c.in-Ok.ensures

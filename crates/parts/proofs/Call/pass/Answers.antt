@@ -1,5 +1,5 @@
 use Rattle.parts.proofs.Calling.{pass_ready, gone_is}
-use Rattle.parts.proofs.go.Goals as goal
+use Rattle.parts.proofs.Call.pass.Goals as goal
 
 pub pass-requires : goal.pass-requires
 pass-requires c = pass_ready c.requires.0 c.unicode.ensures c.from.ensures c.requires.1
