@@ -114,6 +114,7 @@ fn four_bytes(a: u8, b: u8, c: u8, d: u8) -> Char
 }
 
 // A character that is not ASCII.
+#[tactic(auto, using(crate::proofs::Reading::at_place))]
 fn decode_wide(text: &[u8], at: usize) -> Char
     requires { (at < length text.now) × (0x80 ≤ get_or text.now at 0) }
     ensures { Decoded text.now at result.code result.wide }
@@ -133,6 +134,7 @@ fn decode_wide(text: &[u8], at: usize) -> Char
 }
 
 // The character at a place; at or past the end, 0 and 0.
+#[tactic(auto, using(crate::proofs::Reading::at_place))]
 pub fn decode(text: &[u8], at: usize) -> Char
     ensures { Decoded text.now at result.code result.wide }
 {
@@ -217,6 +219,7 @@ fn fits(a: u8, b: u8, c: u8, d: u8) -> bool
 
 // What a byte d counts for behind a, b and c: where it may not stand there, more than F4; and E2, which begins the direction marks, counts for F4, so
 // that a smaller number tells that none is there. A number, and no enum, so that one maximum tells of a whole block.
+#[tactic(auto, using(crate::proofs::Blocks::standing))]
 fn stand(a: u8, b: u8, c: u8, d: u8) -> u8
     ensures { Stood a b c d result }
 {
@@ -372,6 +375,7 @@ fn walk(text: &[u8], barred: bool) -> usize
 }
 
 // The length of the longest well-formed beginning.
+#[tactic(auto, unfolding(crate::specs::Utf8::valid_up_to, crate::specs::Steps::stops))]
 pub fn valid_up_to(text: &[u8]) -> usize
     ensures { result ≡ valid_up_to text.now }
 {

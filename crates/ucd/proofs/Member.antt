@@ -41,3 +41,5 @@ module _ (ascii : List Range) (t : List ℕ) (c : ℕ) {r : Bool} where
   pub table_then : r ≡ searched t c → 0x80 ≤ c → r ≡ tested_in ascii t c
   unfolding tested_in
   table_then e h = rw (le-ltb c 0x80 h) e
+
+pub ruleset tested = (ascii_first, table_then)

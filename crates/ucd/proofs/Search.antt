@@ -58,6 +58,8 @@ module _ (t : List ℕ) (c : ℕ) where
   stays (suc n) base size s =
       omega (arith, stays n (later t c base (size / 2)) (size - size / 2) (omega arith), later_most base (size / 2))
 
+pub ruleset later_of = (later_up, later_stay)
+
 -- ---- a search that goes on: to go on from here comes to the same
 pub record Searching (t : List ℕ) (c base₀ size₀ base size : ℕ) : Type 0 where
   pub some : 1 ≤ size
@@ -125,6 +127,8 @@ module _ (t : List ℕ) (c : ℕ) {n : ℕ} (e : n ≡ among t c) where
     searched_by =
         let g : found t c ≡ k = rw (← e) (sym f) in
         rw (ne_eqb (among t c) 0 (λ z. h (e ∙ z)), g)
+
+pub ruleset searches = (search_none, search_starts, searching_fits, searching_on, searching_within)
 
 -- ---- membership by the list of a table's ends
 unfoldable in_ends : ℕ → List ℕ → Bool

@@ -111,6 +111,7 @@ impl Property for WhiteSpace {
 // Whether a character has the property P over a table that is lent in place of its own. A caller asks for each byte of an identifier: with a call
 // for each, a text of identifiers takes 1.3 times the instructions.
 #[inline(always)]
+#[tactic(auto, using(crate::proofs::Member::tested))]
 pub fn is_in<P: Property>(table: &[u32], c: u32) -> bool
     ensures { result ≡ tested_in P.ascii table.now c }
 {

@@ -19,6 +19,7 @@ struct Part {
 }
 
 // The later half, where it does not begin above c, else the earlier one.
+#[tactic(auto, using(crate::proofs::Search::later_of))]
 fn narrow(table: &[u32], c: u32, p: Part) -> Part
     requires { (1 ≤ p.size) × (2 * (p.base + p.size) ≤ length table.now) }
     ensures { (result.base ≡ later table.now c p.base (p.size / 2)) × (result.size ≡ p.size - p.size / 2) }
@@ -44,6 +45,7 @@ fn last_of(table: &[u32], c: u32, p: Part) -> usize
 }
 
 // A binary search: on a table in order, whether c lies in one of its ranges.
+#[tactic(auto, using(crate::proofs::Search::searches))]
 pub fn search(table: &[u32], c: u32) -> bool
     ensures { result ≡ searched table.now c }
 {
