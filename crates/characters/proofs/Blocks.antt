@@ -1,7 +1,7 @@
 -- A block of 32 bytes each of which may stand behind the three before it: it is well-formed up to its last whole character.
 -- Assumes nothing.
 use mathlib.Core.Path.{◌≡◌, refl, sym, ◌∙◌}
-use mathlib.Core.Bool.{Bool, true, false, ◌&&◌, not, false≢true}
+use mathlib.Core.Bool.{Bool, true, false, ◌&&◌, false≢true}
 use mathlib.Core.List.{List}
 use Prim.Native.Nat.{ℕ, zero, suc, ◌+◌, ◌-◌, ◌*◌, ◌%◌, ◌≤◌, ◌<◌}
 use native.Mathlib.Decide.{dec_le, ℕ_discrete}
@@ -30,7 +30,7 @@ module _ (barred : Bool) (s : List ℕ) (at : ℕ) where
       let a = get_or s at 0 in
       let b = get_or s (at + 1) 0 in
       let d : Decoded s at (a % 32 * 64 + b % 64) 2 =
-      decoded_two s at l {b = b} (two_yes a b {t = true} (sym (is_in j)) refl refl refl) refl i.over (omega (arith, i.under)) in
+      decoded_two s at l {b = b} (two_yes a b (is_in j)) refl i.over (omega (arith, i.under)) in
       passed_char (decoded_point d l) (low_free barred (a % 32 * 64 + b % 64) (omega arith)) refl
 
   past_3 : at < length s → In 0xE0 0xEF (get_or s at 0) → In (low (get_or s at 0)) (high (get_or s at 0)) (get_or s (at + 1) 0) → In 0x80 0xBF (get_or s (at + 2) 0) → (barred ≡ true → spells (get_or s at 0) (get_or s (at + 1) 0) (get_or s (at + 2) 0) ≡ false) → Passed (stops barred) s at (at + 3)
@@ -39,7 +39,7 @@ module _ (barred : Bool) (s : List ℕ) (at : ℕ) where
       let b = get_or s (at + 1) 0 in
       let c = get_or s (at + 2) 0 in
       let d : Decoded s at ((a % 16 * 64 + b % 64) * 64 + c % 64) 3 =
-      decoded_three s at l {b = b} {c = c} (three_yes a b {t = true} refl refl (sym (is_in j)) c {u = true} refl (sym (is_in k)) refl refl refl) refl refl i.over (omega (arith, i.under)) in
+      decoded_three s at l {b = b} {c = c} (three_yes a b c (is_in j) (is_in k)) refl refl i.over (omega (arith, i.under)) in
       let x : low a ≤ b = j.over in
       let y : b ≤ high a = j.under in
       let n : In 0x80 0xBF b = record { over = omega (arith, x, low_ge a); under = omega (arith, y, high_le a) } in
@@ -53,7 +53,7 @@ module _ (barred : Bool) (s : List ℕ) (at : ℕ) where
       let e = get_or s (at + 3) 0 in
       let d : Decoded s at (((a % 8 * 64 + b % 64) * 64 + c % 64) * 64 + e % 64) 4 =
       decoded_four s at l {b = b} {c = c} {d = e}
-      (four_yes a b {t = true} refl refl (sym (is_in j)) c {u = true} refl (sym (is_in k)) e {v = true} refl (sym (is_in m)) refl refl refl)
+      (four_yes a b c (is_in j) (is_in k) e (is_in m))
       refl refl refl i.over (omega (arith, i.under)) in
       passed_char (decoded_point d l) (high_free barred _ (omega (arith, over_4 a b c e i j k m)) (under_4 a b c e i j k m)) refl
 
@@ -81,18 +81,7 @@ held_2 a b c h = simp (le-ltb b 0xE0 h, and_false)
 held_3 : (a b c : ℕ) → 0xF0 ≤ a → free a b c ≡ false
 held_3 a b c h = simp (le-ltb a 0xF0 h, and_false)
 
--- ---- whether a byte may stand, and what it counts for, as `search` takes them from what a need knows
-module _ (a b c d : ℕ) {r t : Bool} where
-  pub fits_first : {u : Bool} → t ≡ free a b c → t ≡ true → u ≡ in_range d (0x80 to 0xC1) → r ≡ not u → r ≡ may_stand a b c d
-  unfolding may_stand
-  fits_first p q v e = rw (sym p ∙ q, ← v) e
-
-  pub fits_on : {lo hi : ℕ} → t ≡ free a b c → t ≡ false → lo ≡ low c → hi ≡ high c → r ≡ in_range d (lo to hi) → r ≡ may_stand a b c d
-  unfolding may_stand
-  fits_on p q j k e = rw (sym p ∙ q, ← j, ← k) e
-
-pub ruleset fitting = (fits_first, fits_on)
-
+-- ---- what a byte counts for, as `search` takes it from what a need knows
 module _ {a b c d r : ℕ} where
   pub stood_none : d < 256 → r ≡ 255 → Stood a b c d r
   stood_none h e =

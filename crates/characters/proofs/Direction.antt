@@ -1,15 +1,14 @@
 -- The direction marks: what stops a walk, and their bytes; the first fault of a text is the first of the two kinds; a text without marks, and the first
 -- mark of one that holds any.
 -- Assumes nothing.
-use Prim.Native.Nat.{ℕ, ◌+◌, ◌-◌, ◌*◌, ◌%◌, ◌≤◌, ◌<◌, min}
+use Prim.Native.Nat.{ℕ, ◌+◌, ◌-◌, ◌*◌, ◌%◌, ◌<◌, min}
 use native.Mathlib.Omega.{arith}
 use mathlib.Core.Path.{◌≡◌, refl, ap, sym, ◌∙◌}
-use mathlib.Core.Bool.{Bool, true, false, ◌&&◌, ◌||◌, not, cond, false≢true}
+use mathlib.Core.Bool.{Bool, true, false, ◌||◌, not, false≢true}
 use mathlib.Core.List.{List, [], ◌∷◌, ◌++◌}
-use lib.Dec.{leb}
 use lib.ListN.{length, get_or, drop}
 use lib.Seq.{drop_at}
-use borrow.Author.Tests.{lt-ltb, lt-leb, le-leb, ltb-true, ltb-false, ne_eqb}
+use borrow.Author.Tests.{lt-ltb, lt-leb, ne_eqb}
 use Rattle.lists.specs.All.{all}
 use Rattle.lists.proofs.Bools.{by_test, both, and_false}
 use Rattle.lists.proofs.All.{all_append}
@@ -37,20 +36,6 @@ pub other_free : (barred : Bool) (c : ℕ) → c < 1114112 → (barred ≡ true 
 unfolding stops
 other_free true c h i = rw (i refl) (simp (lt-ltb c 1114112 h))
 other_free false c h i = simp (lt-ltb c 1114112 h)
-
--- ---- what does, as `search` takes it from what a need knows
-no_char_lem : (c : ℕ) → leb 1114112 c ≡ not (is_char c)
-no_char_lem c =
-    by_test (is_char c) (λ h. rw (h, lt-leb 1114112 c (ltb-true c 1114112 h))) (λ h. rw (h, le-leb 1114112 c (ltb-false c 1114112 h)))
-
-module _ (barred : Bool) (c : ℕ) {r : Bool} where
-  pub stop_mark : {t : Bool} → t ≡ is_direction c → barred && t ≡ true → r ≡ true → r ≡ stops barred c
-  unfolding stops
-  stop_mark i j e = rw (← i, j) e
-
-  pub stop_other : {t : Bool} → t ≡ is_direction c → barred && t ≡ false → r ≡ leb 1114112 c → r ≡ stops barred c
-  unfolding stops
-  stop_other i j e = rw (← i, j) (e ∙ no_char_lem c)
 
 -- ---- by bytes
 spells_80 : (a b c : ℕ) → a ≡ 0xE2 → b ≡ 0x80 → In 0xAA 0xAE c → spells a b c ≡ true
@@ -93,13 +78,12 @@ clear_low s at h l p i j =
     let b = rw e at (h (p - at) (omega arith) l) in
     simp (ne_eqb (get_or s (p + 3) 0) 0xE2 b, and_false)
 
-pub clear_none : (s : List ℕ) (at : ℕ) {m : ℕ} → ((k : ℕ) → k < 32 → cond (spells (get_or s (at + 1 + k) 0) (get_or s (at + 1 + k + 1) 0) (get_or s (at + 1 + k + 2) 0)) 1 0 ≤ m) → m ≤ 0 → Clear s at
-clear_none s at h l p i j =
+pub clear_none : (s : List ℕ) (at : ℕ) → ((k : ℕ) → k < 32 → spells (get_or s (at + 1 + k) 0) (get_or s (at + 1 + k + 1) 0) (get_or s (at + 1 + k + 2) 0) ≡ false) → Clear s at
+clear_none s at h p i j =
     let x : at + 1 + (p + 2 - at) ≡ p + 3 = omega arith in
     let y : p + 3 + 1 ≡ p + 4 = omega arith in
     let z : p + 3 + 2 ≡ p + 5 = omega arith in
-    let b = rw (x, y, z) at (h (p + 2 - at) (omega arith)) in
-    by_test (spells (get_or s (p + 3) 0) (get_or s (p + 4) 0) (get_or s (p + 5) 0)) (λ t. absurd (omega (arith, rw t at b))) (λ t. t)
+    rw (x, y, z) at (h (p + 2 - at) (omega arith))
 
 -- ---- the first of two kinds
 before_either : (p q : ℕ → Bool) (l : List ℕ) → bytes_before (λ c. p c || q c) l ≡ min (bytes_before p l) (bytes_before q l)

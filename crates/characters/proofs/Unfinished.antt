@@ -8,7 +8,7 @@ use mathlib.Core.Option.{none, some}
 use native.Mathlib.Decide.{dec_le}
 use native.Mathlib.Omega.{arith}
 use lib.ListN.{length, get_or}
-use borrow.Author.Tests.{le-leb, lt-leb, le-ltb, eq-eqb, ne_eqb}
+use borrow.Author.Tests.{le-leb, lt-leb, le-ltb, ne_eqb}
 use Rattle.lists.proofs.Bools.{and_false, and_true}
 use Rattle.characters.specs.Ranges.{Range, ◌to◌, in_range}
 use Rattle.characters.specs.Utf8.{begins as starts}
@@ -94,40 +94,6 @@ module _ (a : ℕ) where
           ]
         ]
       ]
-
--- ---- by the tests of the code, as `search` takes the laws
-module _ (n a b c : ℕ) where
-  pub begun_one : {r : Bool} → n ≡ 1 → r ≡ in_range a (0xC2 to 0xF4) → r ≡ begun n a b c
-  unfolding begun
-  begun_one e h = rw e h
-
-  module _ {lo hi : ℕ} {t : Bool} (m : n ≡ 1 → ⊥) (l : lo ≡ low a) (h : hi ≡ high a) (e : t ≡ in_range b (lo to hi)) where
-    is : in_range b (low a to high a) ≡ t
-    is = rw (l, h) at (sym e)
-
-    pub begun_wrong : t ≡ false → false ≡ begun n a b c
-    unfolding begun
-    begun_wrong z = rw (ne_eqb n 1 m, is, z)
-
-    module _ (g : t ≡ true) where
-      pub begun_two : {r : Bool} → n ≡ 2 → r ≡ in_range a (0xE0 to 0xF4) → r ≡ begun n a b c
-      unfolding begun
-      begun_two k z = rw (ne_eqb n 1 m, is, g, eq-eqb n 2 k) z
-
-      pub begun_many : (n ≡ 2 → ⊥) → (n ≡ 3 → ⊥) → false ≡ begun n a b c
-      unfolding begun
-      begun_many k z = rw (ne_eqb n 1 m, is, g, ne_eqb n 2 k, ne_eqb n 3 z)
-
-      module _ (k : n ≡ 3) {v : Bool} (w : v ≡ in_range a (0xF0 to 0xF4)) where
-        pub begun_low : v ≡ false → false ≡ begun n a b c
-        unfolding begun
-        begun_low z = rw (k, is, g, sym w ∙ z)
-
-        pub begun_three : {r : Bool} → v ≡ true → r ≡ in_range c (0x80 to 0xBF) → r ≡ begun n a b c
-        unfolding begun
-        begun_three z q = rw (k, is, g, sym w ∙ z) q
-
-pub ruleset begins = (begun_one, begun_wrong, begun_two, begun_many, begun_low, begun_three)
 
 -- ---- a text with a first byte
 pub unfinished_text : (s : List ℕ) → (length s ≡ 0 → ⊥) → {a b c : ℕ} → a ≡ get_or s 0 0 → b ≡ get_or s 1 0 → c ≡ get_or s 2 0 → {r : Bool} → r ≡ begun (length s) a b c → r ≡ unfinished s

@@ -1,7 +1,7 @@
 // UTF-8 after the Unicode Standard, Table 3-7, "Well-Formed UTF-8 Byte Sequences", and where a text holds a direction mark.
-ghost use Rattle.std.specs.Prelude.{◌≡◌, true, false, cond, [], ◌∷◌, ℕ, ◌+◌, ◌≤◌, ◌<◌, min, length, get_or, drop};
+ghost use Rattle.std.specs.Prelude.{◌≡◌, true, false, cond, [], ◌∷◌, ℕ, ◌+◌, ◌≤◌, ◌<◌, length, get_or, drop, IfSome};
 ghost use Rattle.characters.specs.Ranges.{◌to◌, in_range};
-ghost use Rattle.characters.specs.Utf8.{first, chars, no_char, bytes_before, valid_up_to};
+ghost use Rattle.characters.specs.Utf8.{first, chars, follows, no_char, bytes_before, valid_up_to};
 ghost use Rattle.characters.specs.Direction.{is_direction, clean_up_to};
 ghost use Rattle.characters.specs.Steps.{Reads, low, high, two, three, four, free, may_stand, Stood, whole, second, spells, Clear, stops, Passed, Plain, begun};
 ghost use Rattle.characters.specs.Text.{Decoded, left};
@@ -14,7 +14,7 @@ pub const NO_CHAR: u32 = 1114112;
 const BLOCK: usize = 32;
 
 // A character, and how many bytes it takes. A byte that begins no well-formed sequence is read as no character: NO_CHAR
-// more than the byte, one byte wide.
+// more than the byte, one byte wide, as `Decoded` promises and C is told (`oq3_decode`).
 #[repr(C)]
 #[derive(Clone, Copy)]
 pub struct Char {
@@ -35,54 +35,55 @@ fn no_char(b: u8) -> Char
 fn byte(text: &[u8], i: usize) -> u8
     ensures { result ≡ get_or text.now i 0 }
 {
-    if i < text.len() { text[i] } else { 0 }
+    text.get(i).copied().unwrap_or(0)
 }
 
-fn in_range(lo: u8, hi: u8, b: u8) -> bool
-    ensures { result ≡ in_range b (lo to hi) }
+// Whether b may stand second, behind the first byte a: by two bounds. Measured: with a range for each of the four first bytes, a block takes 5 to 7
+// per cent more instructions.
+#[tactic(auto, unfolding(crate::specs::Steps::low, crate::specs::Steps::high))]
+fn is_second(a: u8, b: u8) -> bool
+    ensures { result ≡ in_range b (low a to high a) }
 {
-    if b < lo {
-        return false;
-    }
-    b <= hi
+    let low = match a {
+        0xE0 => 0xA0,
+        0xF0 => 0x90,
+        _ => 0x80,
+    };
+    let high = match a {
+        0xED => 0x9F,
+        0xF4 => 0x8F,
+        _ => 0xBF,
+    };
+    (low..=high).contains(&b)
 }
 
-// The bounds of the second byte behind the first byte a.
-fn low_of(a: u8) -> u8
-    ensures { result ≡ low a }
+// Whether b may stand third or fourth.
+fn follows(b: u8) -> bool
+    ensures { result ≡ follows b }
 {
-    if a == 0xE0 {
-        return 0xA0;
-    }
-    if a == 0xF0 { 0x90 } else { 0x80 }
+    matches!(b, 0x80..=0xBF)
 }
 
-fn high_of(a: u8) -> u8
-    ensures { result ≡ high a }
-{
-    if a == 0xED {
-        return 0x9F;
-    }
-    if a == 0xF4 { 0x8F } else { 0xBF }
-}
-
+#[tactic(auto, unfolding(crate::specs::Steps::two))]
 fn two_bytes(a: u8, b: u8) -> Char
     ensures { Reads (two a b) result.code result.wide }
 {
-    if !in_range(0x80, 0xBF, b) {
+    if !follows(b) {
         return no_char(a);
     }
     let v = (a % 32) as u32 * 64 + (b % 64) as u32;
     Char { code: v, wide: 2 }
 }
 
+// Measured: with the tests here and in `four_bytes` joined in one, `decode` takes up to 6 per cent more instructions.
+#[tactic(auto, unfolding(crate::specs::Steps::three))]
 fn three_bytes(a: u8, b: u8, c: u8) -> Char
     ensures { Reads (three a b c) result.code result.wide }
 {
-    if !in_range(low_of(a), high_of(a), b) {
+    if !is_second(a, b) {
         return no_char(a);
     }
-    if !in_range(0x80, 0xBF, c) {
+    if !follows(c) {
         return no_char(a);
     }
     let v = (a % 16) as u32 * 64 + (b % 64) as u32;
@@ -92,16 +93,17 @@ fn three_bytes(a: u8, b: u8, c: u8) -> Char
     }
 }
 
+#[tactic(auto, unfolding(crate::specs::Steps::four))]
 fn four_bytes(a: u8, b: u8, c: u8, d: u8) -> Char
     ensures { Reads (four a b c d) result.code result.wide }
 {
-    if !in_range(low_of(a), high_of(a), b) {
+    if !is_second(a, b) {
         return no_char(a);
     }
-    if !in_range(0x80, 0xBF, c) {
+    if !follows(c) {
         return no_char(a);
     }
-    if !in_range(0x80, 0xBF, d) {
+    if !follows(d) {
         return no_char(a);
     }
     let v = (a % 8) as u32 * 64 + (b % 64) as u32;
@@ -130,72 +132,55 @@ fn decode_wide(text: &[u8], at: usize) -> Char
     }
 }
 
-// The character that four bytes begin with.
-pub fn decode_four(a: u8, b: u8, c: u8, d: u8) -> Char
-    ensures { Reads (first (a ∷ b ∷ c ∷ d ∷ [])) result.code result.wide }
-{
-    match a {
-        0x00..=0x7F => Char {
-            code: a as u32,
-            wide: 1,
-        },
-        0xC2..=0xDF => two_bytes(a, b),
-        0xE0..=0xEF => three_bytes(a, b, c),
-        0xF0..=0xF4 => four_bytes(a, b, c, d),
-        _ => no_char(a),
-    }
-}
-
 // The character at a place; at or past the end, 0 and 0.
 pub fn decode(text: &[u8], at: usize) -> Char
     ensures { Decoded text.now at result.code result.wide }
 {
-    if text.len() <= at {
-        return Char { code: 0, wide: 0 };
-    }
-    let a = text[at];
-    if a < 0x80 {
-        return Char {
+    match text.get(at) {
+        None => Char { code: 0, wide: 0 },
+        Some(&a) if a < 0x80 => Char {
             code: a as u32,
             wide: 1,
-        };
+        },
+        Some(_) => decode_wide(text, at),
     }
-    decode_wide(text, at)
 }
 
 // The character at a place alone; at or past the end, 0.
 pub fn code(text: &[u8], at: usize) -> u32
     ensures { result ≡ (first (drop at text.now)).0 }
 {
-    if text.len() <= at {
-        return 0;
-    }
-    let a = text[at];
-    if a < 0x80 {
-        return a as u32;
-    }
-    let d = decode_wide(text, at);
-    d.code
+    decode(text, at).code
 }
 
-// The largest of the 32 bytes from a place on: a loop that compiles to vector instructions.
+// The character that four bytes begin with.
+pub fn decode_four(a: u8, b: u8, c: u8, d: u8) -> Char
+    ensures { Reads (first (a ∷ b ∷ c ∷ d ∷ [])) result.code result.wide }
+{
+    decode(&[a, b, c, d], 0)
+}
+
+// The largest of what the places of a block count for: a loop that compiles to vector instructions.
+fn largest<F: Fn(usize) -> u8>(count: F) -> u8
+    requires { (k : ℕ) → k < 32 → F.pre count k }
+    ensures { (k : ℕ) → k < 32 → (v : ℕ) × F.post count k v × (v ≤ result) }
+{
+    let mut most = 0;
+    for k in 0..BLOCK {
+        most = most.max(count(k));
+    }
+    most
+}
+
+// The largest of the 32 bytes from a place on.
 fn top(text: &[u8], at: usize) -> u8
     requires { at + 32 ≤ length text.now }
     ensures { (k : ℕ) → k < 32 → get_or text.now (at + k) 0 ≤ result }
 {
-    let mut m: u8 = 0;
-    let mut i: usize = 0;
-    while i < BLOCK {
-        let b = text[at + i];
-        if m < b {
-            m = b;
-        }
-        i = i + 1;
-    }
-    m
+    largest(|k| text[at + k])
 }
 
-// Past each block of 32 bytes that is all ASCII, from a place on.
+// Past each block of 32 bytes that is all ASCII, from a place on. The place moves by blocks, and where it stops is what the walk goes on from.
 fn skip_blocks(text: &[u8], from: usize) -> usize
     requires { from ≤ length text.now }
     ensures { Plain text.now from result }
@@ -214,63 +199,55 @@ fn skip_blocks(text: &[u8], from: usize) -> usize
 fn is_free(a: u8, b: u8, c: u8) -> bool
     ensures { result ≡ free a b c }
 {
-    if 0xC0 <= c {
-        return false;
-    }
-    if 0xE0 <= b {
-        return false;
-    }
-    a < 0xF0
+    c < 0xC0 && b < 0xE0 && a < 0xF0
 }
 
 // Whether a byte d may stand behind a, b and c: where no character reaches there as the first of one, but that its size tells F5 to FF, and else as the
 // next of one.
+#[tactic(auto, unfolding(crate::specs::Steps::may_stand))]
 fn fits(a: u8, b: u8, c: u8, d: u8) -> bool
     ensures { result ≡ may_stand a b c d }
 {
     if is_free(a, b, c) {
-        return !in_range(0x80, 0xC1, d);
+        !matches!(d, 0x80..=0xC1)
+    } else {
+        is_second(c, d)
     }
-    in_range(low_of(c), high_of(c), d)
 }
 
 // What a byte d counts for behind a, b and c: where it may not stand there, more than F4; and E2, which begins the direction marks, counts for F4, so
-// that a smaller number tells that none is there.
+// that a smaller number tells that none is there. A number, and no enum, so that one maximum tells of a whole block.
 fn stand(a: u8, b: u8, c: u8, d: u8) -> u8
     ensures { Stood a b c d result }
 {
     if !fits(a, b, c, d) {
-        return 255;
+        0xFF
+    } else if d == 0xE2 {
+        0xF4
+    } else {
+        d
     }
-    if d == 0xE2 { 0xF4 } else { d }
 }
 
-// The largest of what the 32 bytes behind the first three from a place on count for, each behind the three before it: a loop that compiles to vector
-// instructions.
+// The largest of what the 32 bytes behind the first three from a place on count for, each behind the three before it.
 fn stands(text: &[u8], at: usize) -> u8
     requires { at + 35 ≤ length text.now }
     ensures { (k : ℕ) → k < 32 → Stood (get_or text.now (at + k) 0) (get_or text.now (at + k + 1) 0) (get_or text.now (at + k + 2) 0) (get_or text.now (at + k + 3) 0) result }
 {
-    let mut m: u8 = 0;
-    let mut i: usize = 0;
-    while i < BLOCK {
-        let v = stand(
-            text[at + i],
-            text[at + i + 1],
-            text[at + i + 2],
-            text[at + i + 3],
-        );
-        if m < v {
-            m = v;
-        }
-        i = i + 1;
-    }
-    m
+    largest(|k| {
+        stand(
+            text[at + k],
+            text[at + k + 1],
+            text[at + k + 2],
+            text[at + k + 3],
+        )
+    })
 }
 
-// How many of 32 bytes whole characters take, by the last three.
+// How many of 32 bytes whole characters take, by the last three. Measured: as one chain of else, a block takes 2 per cent more instructions.
+#[tactic(auto, unfolding(crate::specs::Steps::whole))]
 fn whole_of(b: u8, c: u8, d: u8) -> usize
-    ensures { (result ≡ whole b c d) × (result ≤ 32) }
+    ensures { (result ≡ whole b c d) × (1 ≤ result) × (result ≤ 32) }
 {
     if 0xC0 <= d {
         return 31;
@@ -281,42 +258,33 @@ fn whole_of(b: u8, c: u8, d: u8) -> usize
     if 0xF0 <= b { 29 } else { 32 }
 }
 
-// The second byte of the direction mark whose third is c; 0 for no mark.
+// The second byte of the direction mark whose third is c; 0, which stands second in no character, for no mark, as `second` says.
+#[tactic(auto, unfolding(crate::specs::Steps::second))]
 fn second_of(c: u8) -> u8
     ensures { result ≡ second c }
 {
-    if in_range(0xAA, 0xAE, c) {
-        return 0x80;
+    match c {
+        0xAA..=0xAE => 0x80,
+        0xA6..=0xA9 => 0x81,
+        _ => 0,
     }
-    if in_range(0xA6, 0xA9, c) { 0x81 } else { 0 }
 }
 
-// 1 where three bytes, if they are well-formed, are a direction mark.
-fn mark(a: u8, b: u8, c: u8) -> u8
-    ensures { result ≡ cond (spells a b c) 1 0 }
+// Whether three bytes, if they are well-formed, are a direction mark.
+#[tactic(auto, unfolding(crate::specs::Steps::spells))]
+fn is_mark(a: u8, b: u8, c: u8) -> bool
+    ensures { result ≡ spells a b c }
 {
-    if b == second_of(c) {
-        if a == 0xE2 { 1 } else { 0 }
-    } else {
-        0
-    }
+    b == second_of(c) && a == 0xE2
 }
 
-// At least 1 where a direction mark begins at one of the 32 bytes from a place on: a loop that compiles to vector instructions.
-fn marks(text: &[u8], at: usize) -> u8
+// Whether a direction mark begins at one of the 32 bytes from a place on.
+fn has_mark(text: &[u8], at: usize) -> bool
     requires { at + 34 ≤ length text.now }
-    ensures { (k : ℕ) → k < 32 → cond (spells (get_or text.now (at + k) 0) (get_or text.now (at + k + 1) 0) (get_or text.now (at + k + 2) 0)) 1 0 ≤ result }
+    ensures { result ≡ false → (k : ℕ) → k < 32 → spells (get_or text.now (at + k) 0) (get_or text.now (at + k + 1) 0) (get_or text.now (at + k + 2) 0) ≡ false }
 {
-    let mut m: u8 = 0;
-    let mut i: usize = 0;
-    while i < BLOCK {
-        let v = mark(text[at + i], text[at + i + 1], text[at + i + 2]);
-        if m < v {
-            m = v;
-        }
-        i = i + 1;
-    }
-    m
+    let most = largest(|k| u8::from(is_mark(text[at + k], text[at + k + 1], text[at + k + 2])));
+    0 < most
 }
 
 // Whether a direction mark stands in the 32 bytes behind the first three from a place on, and they are barred. `most` is the largest of what the 32 count
@@ -325,68 +293,42 @@ fn has_barred(text: &[u8], at: usize, most: u8, barred: bool) -> bool
     requires { (at + 35 ≤ length text.now) × ((k : ℕ) → k < 32 → most < 0xF4 → get_or text.now (at + k + 3) 0 ≡ 0xE2 → ⊥) }
     ensures { result ≡ false → barred ≡ true → Clear text.now at }
 {
-    if !barred {
-        return false;
-    }
-    if most < 0xF4 {
-        return false;
-    }
-    0 < marks(text, at + 1)
+    barred && 0xF4 <= most && has_mark(text, at + 1)
 }
 
-// Past a block of 32 bytes that is well-formed, to the end of its last whole character; else nowhere, nor where a direction mark stands in it and they
-// are barred. The three bytes before it are asked first: no character may reach from there into the block.
-fn skip_wide(text: &[u8], from: usize, barred: bool) -> usize
+// Past a block of 32 bytes that is well-formed, to the end of its last whole character; no place where it is not, or where a direction mark stands in it
+// and they are barred. The three bytes before it are asked first: no character may reach from there into the block.
+fn skip_wide(text: &[u8], from: usize, barred: bool) -> Option<usize>
     requires { from ≤ length text.now }
-    ensures { Passed (stops barred) text.now from result }
+    ensures { IfSome result (λ end. Passed (stops barred) text.now from end × (from < end)) }
 {
-    if from < 3 {
-        return from;
-    }
-    if text.len() - from < BLOCK {
-        return from;
-    }
-    let at = from - 3;
-    if !is_free(text[at], text[at + 1], text[at + 2]) {
-        return from;
+    let at = from.checked_sub(3)?;
+    if text.len() - from < BLOCK || !is_free(text[at], text[at + 1], text[at + 2]) {
+        return None;
     }
     let most = stands(text, at);
-    if 0xF4 < most {
-        return from;
+    if 0xF4 < most || has_barred(text, at, most, barred) {
+        return None;
     }
-    if has_barred(text, at, most, barred) {
-        return from;
-    }
-    from + whole_of(text[at + 32], text[at + 33], text[at + 34])
+    Some(from + whole_of(text[at + 32], text[at + 33], text[at + 34]))
 }
 
 // Whether a character is one of the nine direction marks.
 pub fn is_direction(c: u32) -> bool
     ensures { result ≡ is_direction c }
 {
-    if c < 0x202A {
-        return false;
-    }
-    if c <= 0x202E {
-        return true;
-    }
-    if c < 0x2066 {
-        return false;
-    }
-    c <= 0x2069
+    matches!(c, 0x202A..=0x202E | 0x2066..=0x2069)
 }
 
 // Whether a character stops the walk: what is none, and a direction mark where they are barred.
+#[tactic(auto, unfolding(crate::specs::Steps::stops))]
 fn is_stop(c: u32, barred: bool) -> bool
     ensures { result ≡ stops barred c }
 {
-    if barred & is_direction(c) {
-        return true;
-    }
-    NO_CHAR <= c
+    (barred && is_direction(c)) || NO_CHAR <= c
 }
 
-// Character by character to `stop` or past it, or to the first that stops the walk.
+// Character by character to `stop` or past it, or to the first that stops the walk. The place moves by a character's width.
 fn skip_chars(text: &[u8], from: usize, stop: usize, barred: bool) -> usize
     requires { (from ≤ length text.now) × (stop ≤ length text.now) }
     ensures { (Passed (stops barred) text.now from result) × (result < stop → bytes_before (stops barred) (left text.now result) ≡ 0) }
@@ -406,37 +348,25 @@ fn skip_chars(text: &[u8], from: usize, stop: usize, barred: bool) -> usize
     at
 }
 
-// A block of bytes further, or the end.
-fn next_stop(from: usize, end: usize) -> usize
-    requires { from ≤ end }
-    ensures { (min end (from + 1) ≤ result) × (result ≤ end) }
-{
-    if BLOCK < end - from {
-        from + BLOCK
-    } else {
-        end
-    }
-}
-
 // The bytes before the first character that stops the walk: by blocks of ASCII, by blocks of any characters where there is none, and where there is
-// neither, by characters until blocks are tried again.
+// neither, by characters until blocks are tried again. `barred` is an argument of each step: as a const parameter it would be named in as many places.
 fn walk(text: &[u8], barred: bool) -> usize
     ensures { result ≡ bytes_before (stops barred) (chars text.now) }
 {
     let mut at = 0;
     while at < text.len() {
         let from = skip_blocks(text, at);
-        let wide = skip_wide(text, from, barred);
-        if from < wide {
-            at = wide;
-        } else {
-            let stop = next_stop(from, text.len());
-            let end = skip_chars(text, from, stop, barred);
-            if end < stop {
-                return end;
+        at = match skip_wide(text, from, barred) {
+            Some(to) => to,
+            None => {
+                let stop = from + BLOCK.min(text.len() - from);
+                let end = skip_chars(text, from, stop, barred);
+                if end < stop {
+                    return end;
+                }
+                end
             }
-            at = end;
-        }
+        };
     }
     at
 }
@@ -449,40 +379,29 @@ pub fn valid_up_to(text: &[u8]) -> usize
 }
 
 // The bytes before the first fault: a byte that is not UTF-8, or one of the nine direction marks.
+#[tactic(auto, unfolding(crate::specs::Direction::clean_up_to, crate::specs::Steps::stops))]
 pub fn clean_up_to(text: &[u8]) -> usize
     ensures { result ≡ clean_up_to text.now }
 {
     walk(text, true)
 }
 
-// Whether n bytes are the beginning of one character, by the first three of them.
+// Whether n bytes are the beginning of one character, by the first three of them, one by one: who holds them back has no slice of them.
+#[tactic(auto, unfolding(crate::specs::Steps::begun))]
 pub fn is_begun(n: usize, a: u8, b: u8, c: u8) -> bool
     ensures { result ≡ begun n a b c }
 {
-    if n == 1 {
-        return in_range(0xC2, 0xF4, a);
+    match n {
+        1 => matches!(a, 0xC2..=0xF4),
+        2 => is_second(a, b) && matches!(a, 0xE0..=0xF4),
+        3 => is_second(a, b) && matches!(a, 0xF0..=0xF4) && follows(c),
+        _ => false,
     }
-    if !in_range(low_of(a), high_of(a), b) {
-        return false;
-    }
-    if n == 2 {
-        return in_range(0xE0, 0xF4, a);
-    }
-    if n != 3 {
-        return false;
-    }
-    if !in_range(0xF0, 0xF4, a) {
-        return false;
-    }
-    in_range(0x80, 0xBF, c)
 }
 
 // Whether a text is the beginning of one character that more bytes could finish, or empty.
 pub fn is_unfinished(text: &[u8]) -> bool
     ensures { result ≡ unfinished text.now }
 {
-    if text.len() == 0 {
-        return true;
-    }
-    is_begun(text.len(), byte(text, 0), byte(text, 1), byte(text, 2))
+    text.is_empty() || is_begun(text.len(), byte(text, 0), byte(text, 1), byte(text, 2))
 }

@@ -53,9 +53,9 @@ fn wire(at: usize, f: Figures) -> Piece
 }
 
 // A quoted text, behind its quote.
-fn string(text: &[u8], from: Cursor, letters: Letters<'_>) -> Piece
+fn string(text: &[u8], from: Cursor, letters: &Letters<'_>) -> Piece
     requires { from.at ≤ length text.now }
-    ensures { StringAt (start_in letters.entry.start.now) (more_in letters.entry.more.now) text.now from.at (kind_number result.kind) result.suffix result.misplaced result.end }
+    ensures { StringAt (start_in letters.now.start.now) (more_in letters.now.more.now) text.now from.at (kind_number result.kind) result.suffix result.misplaced result.end }
 {
     let q = double_quoted_string(text, from);
     let end = if q.closed {
@@ -77,10 +77,10 @@ fn numeral(
     at: usize,
     from: Cursor,
     first_digit: u32,
-    letters: Letters<'_>,
+    letters: &Letters<'_>,
 ) -> Piece
     requires { from.at ≤ length text.now }
-    ensures { NumberAt (start_in letters.entry.start.now) (more_in letters.entry.more.now) first_digit text.now at from.at (kind_number result.kind) result.suffix result.misplaced result.end }
+    ensures { NumberAt (start_in letters.now.start.now) (more_in letters.now.more.now) first_digit text.now at from.at (kind_number result.kind) result.suffix result.misplaced result.end }
 {
     let n = number(text, from, first_digit);
     let end = if has_timing_or_imaginary_suffix(text, n.cursor) {
@@ -97,9 +97,9 @@ fn numeral(
 }
 
 // A quoted text or a number, behind its first character c.
-fn literal(text: &[u8], at: usize, from: Cursor, c: u32, letters: Letters<'_>) -> Piece
+fn literal(text: &[u8], at: usize, from: Cursor, c: u32, letters: &Letters<'_>) -> Piece
     requires { from.at ≤ length text.now }
-    ensures { LiteralAt (start_in letters.entry.start.now) (more_in letters.entry.more.now) c text.now at from.at (kind_number result.kind) result.suffix result.misplaced result.end }
+    ensures { LiteralAt (start_in letters.now.start.now) (more_in letters.now.more.now) c text.now at from.at (kind_number result.kind) result.suffix result.misplaced result.end }
 {
     if c == 0x22 {
         return string(text, from, letters);
@@ -115,10 +115,10 @@ fn named(
     c: u32,
     next: Cursor,
     profile: u32,
-    letters: Letters<'_>,
+    letters: &Letters<'_>,
 ) -> Piece
     requires { (Stands text.now at c next.at) × (Lettered c) }
-    ensures { Cuts (letters_in letters.entry) profile text.now at (kind_number result.kind) result.suffix result.misplaced result.end }
+    ensures { Cuts (letters_in letters.now) profile text.now at (kind_number result.kind) result.suffix result.misplaced result.end }
 {
     if letters.is_id_start(c) {
         let own = Cursor { at };
@@ -140,10 +140,10 @@ fn advance(
     c: u32,
     next: Cursor,
     profile: u32,
-    letters: Letters<'_>,
+    letters: &Letters<'_>,
 ) -> Piece
     requires { Stands text.now at c next.at }
-    ensures { Cuts (letters_in letters.entry) profile text.now at (kind_number result.kind) result.suffix result.misplaced result.end }
+    ensures { Cuts (letters_in letters.now) profile text.now at (kind_number result.kind) result.suffix result.misplaced result.end }
 {
     match c {
         0x2F => plain_part(at, slash(text, next)),
@@ -191,9 +191,9 @@ pub fn advance_token(
     text: &[u8],
     at: usize,
     profile: u32,
-    letters: Letters<'_>,
+    letters: &Letters<'_>,
 ) -> Piece
-    ensures { Advanced (letters_in letters.entry) profile text.now at (kind_number result.kind) result.suffix result.misplaced result.end }
+    ensures { Advanced (letters_in letters.now) profile text.now at (kind_number result.kind) result.suffix result.misplaced result.end }
 {
     if text.len() <= at {
         return Piece {

@@ -122,17 +122,17 @@ impl Cursor {
         self.eat_while(text, |c| is_whitespace(c))
     }
 
-    pub fn eat_id_continue(self, text: &[u8], letters: Letters<'_>) -> Cursor
+    pub fn eat_id_continue(self, text: &[u8], letters: &Letters<'_>) -> Cursor
         requires { self.at ≤ length text.now }
-        ensures { Place text.now self.at result.at (skip (more_in letters.entry.more.now) (left text.now self.at)) }
+        ensures { Place text.now self.at result.at (skip (more_in letters.now.more.now) (left text.now self.at)) }
     {
         self.eat_while(text, |c| letters.is_id_continue(c))
     }
 
     // What an identifier goes on with, as long as it is ASCII.
-    pub fn eat_ascii_continue(self, text: &[u8], letters: Letters<'_>) -> Cursor
+    pub fn eat_ascii_continue(self, text: &[u8], letters: &Letters<'_>) -> Cursor
         requires { self.at ≤ length text.now }
-        ensures { Ran (more_in letters.entry.more.now) text.now self.at result.at }
+        ensures { Ran (more_in letters.now.more.now) text.now self.at result.at }
     {
         let rest = &text[self.at..];
         let n = rest
@@ -143,9 +143,9 @@ impl Cursor {
     }
 
     // The rest of an identifier that holds an emoji.
-    pub fn eat_fake(self, text: &[u8], letters: Letters<'_>) -> Cursor
+    pub fn eat_fake(self, text: &[u8], letters: &Letters<'_>) -> Cursor
         requires { self.at ≤ length text.now }
-        ensures { Place text.now self.at result.at (skip (goes_on (more_in letters.entry.more.now) (emoji_in letters.entry.emoji.now)) (left text.now self.at)) }
+        ensures { Place text.now self.at result.at (skip (goes_on (more_in letters.now.more.now) (emoji_in letters.now.emoji.now)) (left text.now self.at)) }
     {
         self.eat_while(text, |c| letters.goes_on(c))
     }

@@ -25,27 +25,27 @@ impl<'t> Letters<'t> {
         }
     }
 
-    pub fn is_id_start(self, c: u32) -> bool
-        ensures { result ≡ start_in self.entry.start.now c }
+    pub fn is_id_start(&self, c: u32) -> bool
+        ensures { result ≡ start_in self.now.start.now c }
     {
         c == 0x5F || is_in::<XidStart>(self.start, c)
     }
 
-    pub fn is_id_continue(self, c: u32) -> bool
-        ensures { result ≡ more_in self.entry.more.now c }
+    pub fn is_id_continue(&self, c: u32) -> bool
+        ensures { result ≡ more_in self.now.more.now c }
     {
         is_in::<XidContinue>(self.more, c)
     }
 
-    pub fn is_wide_emoji(self, c: u32) -> bool
-        ensures { result ≡ wide_emoji (emoji_in self.entry.emoji.now) c }
+    pub fn is_wide_emoji(&self, c: u32) -> bool
+        ensures { result ≡ wide_emoji (emoji_in self.now.emoji.now) c }
     {
         0x80 <= c && is_in::<Emoji>(self.emoji, c)
     }
 
     // Whether an identifier that holds an emoji goes on with c.
-    pub fn goes_on(self, c: u32) -> bool
-        ensures { result ≡ goes_on (more_in self.entry.more.now) (emoji_in self.entry.emoji.now) c }
+    pub fn goes_on(&self, c: u32) -> bool
+        ensures { result ≡ goes_on (more_in self.now.more.now) (emoji_in self.now.emoji.now) c }
     {
         self.is_id_continue(c) || self.is_wide_emoji(c) || c == 0x200D
     }

@@ -26,8 +26,8 @@ pub use numbers::{is_e, is_sign, is_unit};
 use text::{Refusal, check_text};
 
 // Over letters that are lent.
-fn is_ident_in(text: &[u8], letters: Letters<'_>) -> bool
-    ensures { result ≡ ident_by (start_in letters.entry.start.now) (more_in letters.entry.more.now) (chars text.now) }
+fn is_ident_in(text: &[u8], letters: &Letters<'_>) -> bool
+    ensures { result ≡ ident_by (start_in letters.now.start.now) (more_in letters.now.more.now) (chars text.now) }
 {
     if text.len() == 0 {
         return false;
@@ -46,5 +46,5 @@ pub fn is_ident(text: &[u8]) -> Result<bool, Refusal>
     ensures { yes_or_no result ≡ identified text.now }
 {
     check_text(text)?;
-    Ok(is_ident_in(text, Letters::unicode()))
+    Ok(is_ident_in(text, &Letters::unicode()))
 }

@@ -168,9 +168,9 @@ pub fn has_timing_or_imaginary_suffix(text: &[u8], from: Cursor) -> bool
 }
 
 // The suffix of a literal is an identifier.
-pub fn eat_literal_suffix(text: &[u8], from: Cursor, letters: Letters<'_>) -> Cursor
+pub fn eat_literal_suffix(text: &[u8], from: Cursor, letters: &Letters<'_>) -> Cursor
     requires { from.at ≤ length text.now }
-    ensures { Place text.now from.at result.at (identifier (start_in letters.entry.start.now) (more_in letters.entry.more.now) (left text.now from.at)) }
+    ensures { Place text.now from.at result.at (identifier (start_in letters.now.start.now) (more_in letters.now.more.now) (left text.now from.at)) }
 {
     if !letters.is_id_start(from.first(text)) {
         return from;

@@ -52,20 +52,23 @@ impl Body {
         ensures { Added c self.plain (lines_number self.lines) self.twice self.prev result.plain (lines_number result.lines) result.twice result.prev }
     {
         let kept = Body { prev: c, ..self };
-        match c {
-            0x30 | 0x31 => kept,
-            0x5F => Body {
-                twice: self.twice || self.prev == 0x5F,
-                ..kept
-            },
-            0x0A => Body {
-                lines: self.lines.more(),
-                ..kept
-            },
-            _ => Body {
-                plain: false,
-                ..kept
-            },
+        if c == 0x30 {
+            return kept;
+        }
+        if c == 0x31 {
+            return kept;
+        }
+        if c == 0x5F {
+            let twice = self.twice || self.prev == 0x5F;
+            return Body { twice, ..kept };
+        }
+        if c == 0x0A {
+            let lines = self.lines.more();
+            return Body { lines, ..kept };
+        }
+        Body {
+            plain: false,
+            ..kept
         }
     }
 

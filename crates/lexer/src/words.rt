@@ -41,9 +41,9 @@ pub fn pound(text: &[u8], from: Cursor) -> Part
 }
 
 // Behind the ASCII that an identifier begins with.
-fn wide_name(text: &[u8], from: Cursor, letters: Letters<'_>) -> Part
+fn wide_name(text: &[u8], from: Cursor, letters: &Letters<'_>) -> Part
     requires { from.at ≤ length text.now }
-    ensures { Parted (name (more_in letters.entry.more.now) (emoji_in letters.entry.emoji.now)) text.now from.at (kind_number result.kind) result.cursor.at }
+    ensures { Parted (name (more_in letters.now.more.now) (emoji_in letters.now.emoji.now)) text.now from.at (kind_number result.kind) result.cursor.at }
 {
     let cursor = from.eat_id_continue(text, letters);
     if letters.is_wide_emoji(cursor.first(text)) {
@@ -59,9 +59,9 @@ fn wide_name(text: &[u8], from: Cursor, letters: Letters<'_>) -> Part
 }
 
 // Behind the first character of an identifier. Most are of ASCII alone, and end here.
-fn name(text: &[u8], from: Cursor, letters: Letters<'_>) -> Part
+fn name(text: &[u8], from: Cursor, letters: &Letters<'_>) -> Part
     requires { from.at ≤ length text.now }
-    ensures { Parted (name (more_in letters.entry.more.now) (emoji_in letters.entry.emoji.now)) text.now from.at (kind_number result.kind) result.cursor.at }
+    ensures { Parted (name (more_in letters.now.more.now) (emoji_in letters.now.emoji.now)) text.now from.at (kind_number result.kind) result.cursor.at }
 {
     let cursor = from.eat_ascii_continue(text, letters);
     if byte(text, cursor.at) < 0x80 {
@@ -81,10 +81,10 @@ pub fn ident_or_unknown_prefix(
     c: u32,
     from: Cursor,
     profile: u32,
-    letters: Letters<'_>,
+    letters: &Letters<'_>,
 ) -> Part
     requires { (own.at ≤ length text.now) × (from.at ≤ length text.now) × (left text.now own.at ≡ c ∷ left text.now from.at) }
-    ensures { Parted (word (more_in letters.entry.more.now) (emoji_in letters.entry.emoji.now) profile c) text.now from.at (kind_number result.kind) result.cursor.at }
+    ensures { Parted (word (more_in letters.now.more.now) (emoji_in letters.now.emoji.now) profile c) text.now from.at (kind_number result.kind) result.cursor.at }
 {
     if profile == 1 && text[own.at..].starts_with(&PRAGMA_WORD) {
         return Part {
@@ -96,9 +96,9 @@ pub fn ident_or_unknown_prefix(
 }
 
 // Behind an at sign.
-pub fn annotation(text: &[u8], from: Cursor, letters: Letters<'_>) -> Part
+pub fn annotation(text: &[u8], from: Cursor, letters: &Letters<'_>) -> Part
     requires { from.at ≤ length text.now }
-    ensures { Parted (annotated (start_in letters.entry.start.now)) text.now from.at (kind_number result.kind) result.cursor.at }
+    ensures { Parted (annotated (start_in letters.now.start.now)) text.now from.at (kind_number result.kind) result.cursor.at }
 {
     if letters.is_id_start(from.first(text)) {
         return Part {
@@ -113,9 +113,9 @@ pub fn annotation(text: &[u8], from: Cursor, letters: Letters<'_>) -> Part
 }
 
 // Behind a dollar sign.
-pub fn hardware_ident(text: &[u8], from: Cursor, letters: Letters<'_>) -> Figures
+pub fn hardware_ident(text: &[u8], from: Cursor, letters: &Letters<'_>) -> Figures
     requires { from.at ≤ length text.now }
-    ensures { (Parted (hardware (more_in letters.entry.more.now) (emoji_in letters.entry.emoji.now)) text.now from.at (kind_number result.kind) result.cursor.at) × (Wired text.now from.at (kind_number result.kind) (place_of result.misplaced) result.cursor.at) }
+    ensures { (Parted (hardware (more_in letters.now.more.now) (emoji_in letters.now.emoji.now)) text.now from.at (kind_number result.kind) result.cursor.at) × (Wired text.now from.at (kind_number result.kind) (place_of result.misplaced) result.cursor.at) }
 {
     if letters.is_wide_emoji(from.first(text)) {
         let mid = from.eat_id_continue(text, letters);

@@ -1,6 +1,6 @@
--- Membership in a table that is written out, as `search` takes the laws from the tests one by one; and the two ways of `tested_in`.
+-- Membership in a table that is written out, from bounds on c; and the two ways of `tested_in`.
 -- Assumes nothing.
-use mathlib.Core.Path.{◌≡◌, refl, sym, ◌∙◌}
+use mathlib.Core.Path.{◌≡◌, refl}
 use mathlib.Core.Bool.{Bool, true, false}
 use mathlib.Core.List.{List, [], ◌∷◌}
 use Prim.Native.Nat.{ℕ, ◌≤◌, ◌<◌}
@@ -11,22 +11,7 @@ use Rattle.characters.specs.Ranges.{Range, ◌to◌, in_range, in_table}
 use Rattle.ucd.specs.Search.{searched}
 use Rattle.ucd.specs.Properties.{tested_in}
 
-module _ (c : ℕ) (r : Range) {x : Bool} where
-  pub in_first : (t : List Range) → x ≡ in_range c r → x ≡ true → true ≡ in_table c (r ∷ t)
-  unfolding in_table
-  in_first t e h = rw (sym e ∙ h)
-
-  pub in_last : x ≡ in_range c r → x ≡ in_table c (r ∷ [])
-  unfolding in_table
-  in_last e = by_test (in_range c r) (λ h. e ∙ rw h) (λ h. e ∙ rw h)
-
-  pub not_first : (t : List Range) {y : Bool} → x ≡ in_range c r → x ≡ false → y ≡ in_table c t → y ≡ in_table c (r ∷ t)
-  unfolding in_table
-  not_first t e h k = rw (sym e ∙ h) k
-
-pub ruleset member = (in_first, in_last, not_first)
-
--- the same from bounds on c: c lies in the first range, or in a later one, or outside of all
+-- c lies in the first range, or in a later one, or outside of all
 abbrev pub Outside : ℕ → List Range → Type 0
 Outside c [] = Unit {0}
 Outside c (lo to hi ∷ t) = (lo ≤ c → hi < c) × Outside c t

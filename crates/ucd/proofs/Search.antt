@@ -1,15 +1,15 @@
 -- The binary search: each step of it, for every list; and on a list that rises, that it is membership, for every table at once.
 -- Assumes nothing.
-use mathlib.Core.Path.{◌≡◌, refl, ap, sym, ◌∙◌}
-use mathlib.Core.Bool.{Bool, true, false, cond, ◌&&◌, ◌||◌}
+use mathlib.Core.Path.{◌≡◌, refl, sym, ◌∙◌}
+use mathlib.Core.Bool.{Bool, true, false, ◌&&◌, ◌||◌}
 use mathlib.Core.List.{List, [], ◌∷◌}
 use Prim.Native.Nat.{ℕ, zero, suc, ◌+◌, ◌-◌, ◌*◌, ◌/◌, ◌≤◌, ◌<◌}
 use native.Mathlib.Decide.{dec_lt, ℕ_discrete}
 use native.Mathlib.Omega.{arith}
 use lib.Dec.{leb, ltb}
 use lib.ListN.{length, get_or}
-use borrow.Author.Tests.{lt-ltb, le-ltb, le-leb, lt-leb, leb-true, leb-false, ltb-true, eq-eqb, ne_eqb}
-use Rattle.lists.proofs.Bools.{by_test, on_cond, and_false, or_true}
+use borrow.Author.Tests.{le-leb, lt-leb, leb-true, leb-false, ltb-true, eq-eqb, ne_eqb}
+use Rattle.lists.proofs.Bools.{by_test, on_cond, or_true}
 use Rattle.characters.specs.Ranges.{Range, ◌to◌, in_range, in_table, flat}
 use Rattle.ucd.specs.Search.{later, narrowed, among, found, searched}
 use Rattle.ucd.specs.Order.{Sorted}
@@ -89,17 +89,6 @@ module _ {t : List ℕ} {c base₀ size₀ base size : ℕ} (s : Searching t c b
 pub half_most : (k : ℕ) {n m : ℕ} → n ≤ 2 * k → m ≡ n - n / 2 → m ≤ k
 half_most k h e = omega arith
 
--- how many ranges it begins with
-module _ (t : List ℕ) (c : ℕ) {n : ℕ} (e : n ≡ length t / 2) where
-  pub among_few : n ≤ 32 → n ≡ among t c
-  among_few h = e ∙ rw (le-ltb 32 (length t / 2) (omega arith))
-
-  pub among_first : 32 < n → c < get_or t 64 0 → 32 ≡ among t c
-  among_first h k = rw (lt-ltb 32 (length t / 2) (omega arith), lt-ltb c (get_or t 64 0) k)
-
-  pub among_all : 32 < n → get_or t 64 0 ≤ c → n ≡ among t c
-  among_all h k = e ∙ rw (le-ltb c (get_or t 64 0) k) (sym (ap (λ (b : Bool). cond b 32 (length t / 2)) (and_false (ltb 32 (length t / 2)))))
-
 among_most : (t : List ℕ) (c : ℕ) → 2 * among t c ≤ length t
 among_most t c =
     by_test (ltb 32 (length t / 2))
@@ -122,17 +111,11 @@ module _ (t : List ℕ) (c : ℕ) {n : ℕ} (e : n ≡ among t c) where
   search_starts h = searching_none t c 0 n (omega arith) (omega (arith, among_most t c))
 
   module _ {k : ℕ} (h : n ≡ 0 → ⊥) (f : k ≡ narrowed n t c 0 n) where
-    searched_by : searched t c ≡ in_range c (get_or t (2 * k) 0 to get_or t (2 * k + 1) 0)
+    pub searched_by : searched t c ≡ in_range c (get_or t (2 * k) 0 to get_or t (2 * k + 1) 0)
     unfolding searched
     searched_by =
         let g : found t c ≡ k = rw (← e) (sym f) in
         rw (ne_eqb (among t c) 0 (λ z. h (e ∙ z)), g)
-
-    pub search_below : c < get_or t (2 * k) 0 → false ≡ searched t c
-    search_below l = sym (searched_by ∙ rw (lt-leb (get_or t (2 * k) 0) c l))
-
-    pub search_above : {r : Bool} → get_or t (2 * k) 0 ≤ c → r ≡ leb c (get_or t (2 * k + 1) 0) → r ≡ searched t c
-    search_above l q = q ∙ sym (searched_by ∙ rw (le-leb (get_or t (2 * k) 0) c l))
 
 -- ---- membership by the list of a table's ends
 unfoldable in_ends : ℕ → List ℕ → Bool

@@ -1,29 +1,14 @@
-// Ranges of numbers: a byte in one range, and the search in a table of them, one for all tables.
+// The search in a table of ranges, one for all tables. The library's binary search promises nothing of a table that is not in order, and
+// a lent one need not be: `searched` says what is answered then.
 ghost use Rattle.std.specs.Prelude.{◌≡◌, ◌+◌, ◌-◌, ◌*◌, ◌/◌, ◌≤◌, length};
-ghost use Rattle.characters.specs.Ranges.{◌to◌, in_range};
 ghost use Rattle.ucd.specs.Search.{later, narrowed, among, searched};
-
-pub fn in_range(lo: u8, hi: u8, b: u8) -> bool
-    ensures { result ≡ in_range b (lo to hi) }
-{
-    if b < lo {
-        return false;
-    }
-    b <= hi
-}
 
 // How many ranges are searched: the first 32 are enough where c lies below the next, as the letters of most programs do.
 fn among(table: &[u32], c: u32) -> usize
     ensures { result ≡ among table.now c }
 {
     let n = table.len() / 2;
-    if n <= 32 {
-        return n;
-    }
-    if c < table[64] {
-        return 32;
-    }
-    n
+    if 32 < n && c < table[64] { 32 } else { n }
 }
 
 // So many ranges from `base` on.
@@ -41,10 +26,8 @@ fn narrow(table: &[u32], c: u32, p: Part) -> Part
     let half = p.size / 2;
     let mid = p.base + half;
     let size = p.size - half;
-    if table[2 * mid] <= c {
-        return Part { base: mid, size };
-    }
-    Part { base: p.base, size }
+    let base = if table[2 * mid] <= c { mid } else { p.base };
+    Part { base, size }
 }
 
 // Where the search ends among at most 32 ranges: on a table in order, at the last that does not begin above c, or at the first. Five steps written
@@ -76,8 +59,5 @@ pub fn search(table: &[u32], c: u32) -> bool
         p = narrow(table, c, p);
     }
     let k = last_of(table, c, p);
-    if c < table[2 * k] {
-        return false;
-    }
-    c <= table[2 * k + 1]
+    (table[2 * k]..=table[2 * k + 1]).contains(&c)
 }

@@ -12,8 +12,8 @@ pub returns : goal.returns
 returns c =
     let s = c.args.text.now in
     let at = c.number-n.result.cursor.at in
-    let start = c.args.letters.start.now in
-    let more = c.args.letters.more.now in
+    let start = c.args.letters.now.start.now in
+    let more = c.args.letters.now.more.now in
     let place : Place s at c.if-has_timing_or_imaginary_suffix.end.at (number_suffix (start_in start) (more_in more) (left s at)) =
     elim c.if-has_timing_or_imaginary_suffix.branch [
       | then-has_timing_or_imaginary_suffix w ↦

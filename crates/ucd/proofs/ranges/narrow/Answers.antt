@@ -5,5 +5,5 @@ use Rattle.ucd.proofs.ranges.narrow.Goals as goal
 pub returns-then-table-mid : goal.returns-then-table-mid
 returns-then-table-mid c = search (rules, later_up)
 
-pub returns : goal.returns
-returns c = search (rules, later_stay)
+pub returns-else-table-mid : goal.returns-else-table-mid
+returns-else-table-mid c = search (rules, later_stay)

@@ -1,6 +1,9 @@
-use mathlib.Core.Path.{refl, ◌∙◌}
+use mathlib.Core.Path.{◌≡◌, sym, ◌∙◌}
+use Prim.Native.Nat.{◌+◌, ◌*◌}
+use lib.ListN.{get_or}
+use Rattle.characters.specs.Ranges.{◌to◌, in_range}
 use native.Mathlib.Omega.{arith}
-use Rattle.ucd.proofs.Search.{search_none, search_starts, search_below, search_above, searching_on, searching_fits, searching_within}
+use Rattle.ucd.proofs.Search.{search_none, search_starts, searched_by, searching_on, searching_fits, searching_within}
 use borrow.Author.Rules.{rules}
 use Rattle.ucd.proofs.ranges.search.Goals as goal
 
@@ -28,14 +31,11 @@ offset_bounds-table-k c = omega (arith, searching_within c.loop-p.invariant c.la
 pub bounds-table-k : goal.bounds-table-k
 bounds-table-k c = omega (arith, searching_within c.loop-p.invariant c.last_of-k.ensures)
 
-pub returns-then-c-table : goal.returns-then-c-table
-returns-then-c-table c = search_below _ _ c.among.ensures c.if-p-eq0.false (c.last_of-k.ensures ∙ c.loop-p.invariant.same) c.if-c-table.true
+pub overflow_mul-k-2 : goal.overflow_mul-k-2
+overflow_mul-k-2 c = omega (arith, searching_within c.loop-p.invariant c.last_of-k.ensures)
 
-pub overflow_mul-result : goal.overflow_mul-result
-overflow_mul-result c = omega (arith, searching_within c.loop-p.invariant c.last_of-k.ensures)
-
-pub overflow_add-result : goal.overflow_add-result
-overflow_add-result c = omega (arith, searching_within c.loop-p.invariant c.last_of-k.ensures)
+pub overflow_add-k : goal.overflow_add-k
+overflow_add-k c = omega (arith, searching_within c.loop-p.invariant c.last_of-k.ensures)
 
 pub offset_bounds-table-k-2 : goal.offset_bounds-table-k-2
 offset_bounds-table-k-2 c = omega (arith, searching_within c.loop-p.invariant c.last_of-k.ensures)
@@ -44,4 +44,8 @@ pub bounds-table-k-2 : goal.bounds-table-k-2
 bounds-table-k-2 c = omega (arith, searching_within c.loop-p.invariant c.last_of-k.ensures)
 
 pub returns : goal.returns
-returns c = search_above _ _ c.among.ensures c.if-p-eq0.false (c.last_of-k.ensures ∙ c.loop-p.invariant.same) c.if-c-table.false refl
+returns c =
+    let t = c.args.table.now in
+    let k = c.last_of-k.result in
+    let e : c.contains.result ≡ in_range c.args.c (get_or t (2 * k) 0 to get_or t (2 * k + 1) 0) = search rules in
+    e ∙ sym (searched_by t c.args.c c.among.ensures c.if-p-eq0.false (c.last_of-k.ensures ∙ c.loop-p.invariant.same))

@@ -1,6 +1,0 @@
-use mathlib.Core.Path.{sym}
-use lib.ListN.{get_or-eq_default}
-use Rattle.characters.proofs.utf8.byte.Goals as goal
-
-pub returns-else-i-text : goal.returns-else-i-text
-returns-else-i-text c = sym (get_or-eq_default c.args.text.now 0 c.if-i-text.false)
