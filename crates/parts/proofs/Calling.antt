@@ -7,7 +7,7 @@ use mathlib.Core.List.{List, [], ◌∷◌, ◌++◌}
 use native.Mathlib.Omega.{arith}
 use lib.Dec.{eqb, ltb}
 use Rattle.std.specs.Prelude.{Ok, Err}
-use lib.ListN.{length, take, drop, length-append, length-take, length-drop}
+use lib.ListN.{length, drop, length-append, length-take, length-drop}
 use borrow.Author.Tests.{eqb-true, le-ltb, ltb-false, not-false}
 use Rattle.lists.specs.Over.{over}
 use Rattle.lists.proofs.Bools.{by_test}
@@ -92,7 +92,7 @@ module _ {x : Lexer} {last : Bool} {chunk : List ℕ} {c : Scan} (k : CallReady 
   b = x.pend ++ chunk
 
   abbrev part : List ℕ
-  part = take (c.until - c.from) (drop c.from chunk)
+  part = c.text.now
 
   abbrev fed : List ℕ
   fed = first_of c.head ++ chars part

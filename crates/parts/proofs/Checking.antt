@@ -7,7 +7,7 @@ use mathlib.Core.List.{List, [], ◌∷◌, ◌++◌}
 use native.Mathlib.Omega.{arith}
 use lib.Dec.{eqb}
 use Rattle.std.specs.Prelude.{Option, None, Some, Result, Ok, Err}
-use lib.ListN.{length, take, drop, length-append, length-drop, drop_of_length-le}
+use lib.ListN.{length, take, drop, length-take, length-append, length-drop, drop_of_length-le}
 use lib.Seq.{take_all, drop-drop, drop-append-add}
 use borrow.Author.Tests.{lt-ltb, le-ltb, lt-leb, ltb-true, ltb-false, ne_eqb, eqb-true, not-false}
 use Rattle.lists.specs.All.{all}
@@ -171,6 +171,9 @@ module _ (last : Bool) (fed : ℕ) (chunk : List ℕ) (from : ℕ) {clean : ℕ}
   pub rest_within : from ≤ length chunk → from + clean ≤ length chunk
   rest_within h = omega (arith, upto, clean_first (drop from chunk), valid_within (drop from chunk), length-drop from chunk)
 
+  pub front_long : from + clean ≤ length chunk → clean ≡ length (take clean (part chunk from))
+  front_long h = omega (arith, length-take clean (part chunk from), length-take (length chunk - from) (drop from chunk), length-drop from chunk)
+
   tail_is : clean ≡ valid_up_to (drop from chunk) → part chunk (from + clean) ≡ beyond (drop from chunk)
   tail_is h = part_is chunk (from + clean) ∙ sym (drop-drop clean from chunk) ∙ ap (λ (k : ℕ). drop k (drop from chunk)) h
 
@@ -222,10 +225,10 @@ module _ (last : Bool) (fed : ℕ) (chunk : List ℕ) (from : ℕ) {clean : ℕ}
   pub rest_short : Open last (drop from chunk) clean → length (part chunk (from + clean)) ≤ 3
   rest_short o = rw (tail_is o.upto) (open_short last o)
 
-  pub rest_good : {head : Option ℕ} {q : Pend} → Open last (drop from chunk) clean → q ≡ packed_pend (part chunk (from + clean)) → RestScanned last fed chunk from head (Ok (record { head = head; from = from; until = from + clean; pend = q }))
-  rest_good o p = (
+  pub rest_good : {c : Scan} {head : Option ℕ} → Open last (drop from chunk) clean → c.head ≡ head → c.text.now ≡ take clean (part chunk from) → c.pend ≡ packed_pend (part chunk (from + clean)) → RestScanned last fed chunk from head (Ok c)
+  rest_good o h t p = (
     fault_none last (fed + from) (drop from chunk) o.free o.goes,
-    record { head_is = refl; from_is = refl; until_is = ap (λ (k : ℕ). from + k) o.upto; rest = p ∙ ap packed_pend (tail_is o.upto) },
+    record { head_is = h; text_is = t ∙ rw (part_is chunk from, o.upto); rest = p ∙ ap packed_pend (tail_is o.upto) },
   )
 
 -- ---- by what the first character is
@@ -280,16 +283,7 @@ module _ {pend chunk : List ℕ} {code from : ℕ} (w : WholeHead pend chunk cod
     scanned_rest h (Err r) s = to_rest h ∙ s
     scanned_rest h (Ok c) s =
         let g = s.1 in
-        let v = valid_up_to (drop from chunk) in
-        let k : c.until - c.from ≡ v = omega (arith, g.until_is, g.from_is) in (
-          to_rest h ∙ s.0,
-          record {
-            low = omega (arith, g.until_is, g.from_is);
-            high = omega (arith, g.until_is, valid_within (drop from chunk), length-drop from chunk, w.within);
-            are = whole_head ∙ rw (k, g.head_is, g.from_is);
-            rest = g.rest ∙ ap packed_pend (sym beyond_head);
-          },
-        )
+        (to_rest h ∙ s.0, record { are = whole_head ∙ rw (g.head_is, g.text_is); rest = g.rest ∙ ap packed_pend (sym beyond_head) })
 
 -- ---- bytes none of which is a whole character
 module _ (s : List ℕ) (v : valid_up_to s ≡ 0) where
@@ -327,17 +321,14 @@ module _ (last : Bool) (fed : ℕ) (pend chunk : List ℕ) (l : 0 < length pend)
       none_bad (pend ++ chunk) (none_whole h) last (fed - length pend) (rw (t, ne_eqb (length (pend ++ chunk)) 0 (longer pend chunk l))) ∙ rw (← j)
 
 module _ (last : Bool) (at : ℕ) {pend chunk : List ℕ} {q : Pend} (h : ShortHead pend chunk q) where
-  pub scanned_short : last ≡ false → Scanned last at pend chunk (Ok (record { head = None; from = length chunk; until = length chunk; pend = q }))
-  scanned_short t =
-      let z : length chunk - length chunk ≡ 0 = omega arith in (
-        none_good (pend ++ chunk) (none_whole h) last at (rw t h.short),
-        record {
-          low = omega arith;
-          high = omega arith;
-          are = rw (no_whole (pend ++ chunk) (none_whole h), z);
-          rest = h.same ∙ ap packed_pend (sym (all_beyond (pend ++ chunk) (none_whole h)));
-        },
-      )
+  pub scanned_short : last ≡ false → {c : Scan} → c.head ≡ None → c.text.now ≡ [] → c.pend ≡ q → Scanned last at pend chunk (Ok c)
+  scanned_short t e f g = (
+    none_good (pend ++ chunk) (none_whole h) last at (rw t h.short),
+    record {
+      are = rw (no_whole (pend ++ chunk) (none_whole h), e, f);
+      rest = g ∙ h.same ∙ ap packed_pend (sym (all_beyond (pend ++ chunk) (none_whole h)));
+    },
+  )
 
 -- ---- where nothing is pending
 rest_all : (last : Bool) (fed : ℕ) (chunk : List ℕ) (r : Result Scan Refusal) → RestScanned last fed chunk 0 None r → Scanned last (fed - 0) [] chunk r
@@ -345,16 +336,7 @@ rest_all last fed chunk (Err r) s = let z : fed + 0 ≡ fed - 0 = omega arith in
 rest_all last fed chunk (Ok c) s =
     let z : fed + 0 ≡ fed - 0 = omega arith in
     let g = s.1 in
-    let u : c.until ≡ valid_up_to chunk = omega (arith, g.until_is) in
-    let k : c.until - c.from ≡ valid_up_to chunk = omega (arith, u, g.from_is) in (
-      rw z at s.0,
-      record {
-        low = omega (arith, g.from_is);
-        high = omega (arith, u, valid_within chunk);
-        are = rw (k, g.head_is, g.from_is);
-        rest = g.rest;
-      },
-    )
+    (rw z at s.0, record { are = rw (g.head_is, g.text_is); rest = g.rest })
 
 pub scanned_none : (p : Pend) (last : Bool) (fed : ℕ) (chunk : List ℕ) (r : Result Scan Refusal) → p.count ≡ 0 → RestScanned last fed chunk 0 None r → Scanned last (fed - length (pend_of p)) (pend_of p) chunk r
 scanned_none p last fed chunk r e s = rw e (rest_all last fed chunk r s)

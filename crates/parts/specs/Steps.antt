@@ -176,8 +176,7 @@ HeadIs pend chunk Y.Bad = BadHead pend chunk
 -- the chunk from a place on, of a text with `fed` bytes before the chunk
 pub record RestGood (chunk : List ℕ) (from : ℕ) (head : Option ℕ) (c : Scan) : Type 0 where
   pub head_is : c.head ≡ head
-  pub from_is : c.from ≡ from
-  pub until_is : c.until ≡ from + valid_up_to (drop from chunk)
+  pub text_is : c.text.now ≡ whole (drop from chunk)
   pub rest : c.pend ≡ packed_pend (beyond (drop from chunk))
 
 abbrev pub RestScanned : Bool → ℕ → List ℕ → ℕ → Option ℕ → Result Scan Refusal → Type 0
@@ -186,9 +185,7 @@ RestScanned last fed chunk from head (Err r) = fault_of last (fed + from) (drop 
 
 -- bytes without a fault
 pub record Good (pend chunk : List ℕ) (c : Scan) : Type 0 where
-  pub low : c.from ≤ c.until
-  pub high : c.until ≤ length chunk
-  pub are : chars (whole (pend ++ chunk)) ≡ first_of c.head ++ chars (take (c.until - c.from) (drop c.from chunk))
+  pub are : chars (whole (pend ++ chunk)) ≡ first_of c.head ++ chars c.text.now
   pub rest : c.pend ≡ packed_pend (beyond (pend ++ chunk))
 
 -- bytes that stand at `at` of the whole text

@@ -16,19 +16,18 @@ use text::Refusal;
 
 // The first character of bytes without a fault, if it began before the chunk, the part of the chunk that holds the others, and the bytes behind them.
 #[derive(Clone, Copy)]
-pub struct Scan {
+pub struct Scan<'c> {
     pub head: Option<u32>,
-    pub from: usize,
-    pub until: usize,
+    pub text: &'c [u8],
     pub pend: Pend,
 }
 
 // The profiles that can be fed in parts: those of OpenQASM 3.
 const PROFILES: u32 = 2;
 
-impl Call<'_> {
+impl<'c> Call<'c> {
     // The chunk from a place on.
-    fn scan_rest(self, from: usize, head: Option<u32>) -> Result<Scan, Refusal>
+    fn scan_rest(self, from: usize, head: Option<u32>) -> Result<Scan<'c>, Refusal>
         requires { (from ≤ length self.chunk.now) × (self.lexer.fed + length self.chunk.now ≤ longest) }
         ensures { RestScanned self.entry.last self.entry.lexer.fed self.entry.chunk.now from head result }
     {
@@ -48,14 +47,13 @@ impl Call<'_> {
         }
         Ok(Scan {
             head,
-            from,
-            until,
+            text: &rest[..clean],
             pend: Pend::holding(tail),
         })
     }
 
     // Behind the bytes of a character that is not finished.
-    fn scan_head(self) -> Result<Scan, Refusal>
+    fn scan_head(self) -> Result<Scan<'c>, Refusal>
         requires { (unfinished (pend_of self.lexer.pend) ≡ true) × (0 < length (pend_of self.lexer.pend)) × (length (pend_of self.lexer.pend) ≤ self.lexer.fed) × (self.lexer.fed + length self.chunk.now ≤ longest) }
         ensures { Scanned self.entry.last (self.entry.lexer.fed - length (pend_of self.entry.lexer.pend)) (pend_of self.entry.lexer.pend) self.entry.chunk.now result }
     {
@@ -66,15 +64,14 @@ impl Call<'_> {
             Head::Whole { code, from } => self.scan_rest(from, Some(code)),
             Head::Short(pend) if !self.last => Ok(Scan {
                 head: None,
-                from: self.chunk.len(),
-                until: self.chunk.len(),
+                text: &[],
                 pend,
             }),
             _ => Err(Refusal::NotUtf8(place)),
         }
     }
 
-    fn scan(self) -> Result<Scan, Refusal>
+    fn scan(self) -> Result<Scan<'c>, Refusal>
         requires { (unfinished (pend_of self.lexer.pend) ≡ true) × (length (pend_of self.lexer.pend) ≤ self.lexer.fed) × (self.lexer.fed + length self.chunk.now ≤ longest) }
         ensures { Scanned self.entry.last (self.entry.lexer.fed - length (pend_of self.entry.lexer.pend)) (pend_of self.entry.lexer.pend) self.entry.chunk.now result }
     {
@@ -86,7 +83,7 @@ impl Call<'_> {
 
     // The refusals in their order.
     #[tactic(auto, unfolding(crate::specs::Steps::check_of))]
-    pub fn check(self) -> Result<Scan, FeedRefusal>
+    pub fn check(self) -> Result<Scan<'c>, FeedRefusal>
         ensures { Checked (meaning self.entry.lexer) self.entry.last self.entry.chunk.now result }
     {
         let lexer = self.lexer;

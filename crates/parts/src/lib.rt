@@ -46,7 +46,7 @@ pub struct Last {
     kept: u32,
 }
 
-// A lexer between two calls, in integers alone, so that every value has a meaning.
+// A lexer between two calls, in integers alone, so that every value that C hands in has a meaning (`Called`): flags and states are numbers here alone.
 #[repr(C)]
 #[derive(Clone, Copy, Default)]
 pub struct Lexer {
@@ -59,7 +59,7 @@ pub struct Lexer {
     last: Last,
 }
 
-// What a call answers, and the lexer behind it.
+// What a call answers, and the lexer behind it: C gets it as it is, and `Called` speaks of these numbers.
 #[repr(C)]
 #[derive(Clone, Copy)]
 pub struct Fed {
@@ -118,7 +118,7 @@ impl Lexer {
 
 impl Call<'_> {
     // The chunk, and the end of the text where it is the last, through the machine.
-    fn pass(self, scan: Scan, write: bool, list: &mut [u32]) -> Went
+    fn pass(self, scan: Scan<'_>, write: bool, list: &mut [u32]) -> Went
         requires { (CallReady (meaning self.lexer) self.last self.chunk.now scan) × (write ≡ true → length (given (meaning self.lexer) self.last self.chunk.now) ≤ length list.old / record_words) }
         ensures { Gone (handed_out (meaning self.entry.lexer) self.entry.last self.entry.chunk.now) write list.old 0 result list.new }
     {
@@ -130,12 +130,11 @@ impl Call<'_> {
             profile: self.lexer.profile,
             letters: Letters::unicode(),
         };
-        let text = &self.chunk[scan.from..scan.until];
-        pass(point, scan.head, text, self.last, write, list, rules)
+        pass(point, scan.head, scan.text, self.last, write, list, rules)
     }
 
     // Refuses a room for fewer records than there are. Where there is room for as many as there can be, nothing is counted.
-    fn check_room(self, scan: Scan, room: usize) -> Result<(), Refusal>
+    fn check_room(self, scan: Scan<'_>, room: usize) -> Result<(), Refusal>
         requires { CallReady (meaning self.lexer) self.last self.chunk.now scan }
         ensures { Roomed room (length (given (meaning self.entry.lexer) self.entry.last self.entry.chunk.now)) result }
     {
@@ -182,7 +181,7 @@ impl Call<'_> {
     }
 
     // Where the checks pass.
-    fn deliver(self, scan: Scan, carry: &mut [u8], list: &mut [u32]) -> Result<Fed, Refusal>
+    fn deliver(self, scan: Scan<'_>, carry: &mut [u8], list: &mut [u32]) -> Result<Fed, Refusal>
         requires { CallReady (meaning self.lexer) self.last self.chunk.now scan }
         ensures { Delivered self.entry.lexer self.entry.last self.entry.chunk.now carry.old list.old result carry.new list.new }
     {

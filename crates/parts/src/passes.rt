@@ -1,4 +1,5 @@
-// A part of a text fed to the machine: how many words its records take, and these stored where `write` says so.
+// A part of a text fed to the machine: how many words its records take, and these stored where `write` says so. That stays a flag: a list that is lent or
+// not would be asked at each record just so, and `PutIf` says of both what becomes of the list and of the count.
 ghost use Rattle.std.specs.Prelude.{◌≡◌, true, ◌++◌, ◌+◌, ◌≤◌, length};
 ghost use Rattle.lists.specs.Steps.{PutIf};
 ghost use Rattle.characters.specs.Utf8.{chars};
@@ -58,7 +59,7 @@ impl Went {
         }
     }
 
-    // The characters of some bytes.
+    // The characters of some bytes. The place goes on by a character's width, and counts no index.
     fn feed_words(self, text: &[u8], write: bool, list: &mut [u32], rules: Rules<'_>) -> Went
         requires { WordsReady (letters_in rules.letters) rules.profile self text.now write list.old }
         ensures { Gone (feeds (letters_in rules.entry.letters) rules.entry.profile self.point.begun (state_of self.point.state) (chars text.now)) write list.old self.words result list.new }

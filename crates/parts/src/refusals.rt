@@ -12,7 +12,7 @@ pub enum FeedRefusal {
     Text(Refusal),
 }
 
-// The number for C of a lexer that has ended, or is none.
+// The number of a lexer that has ended, or is none, as C gets it.
 pub const NOT_OPEN: u32 = 5;
 
 impl From<Refusal> for FeedRefusal {

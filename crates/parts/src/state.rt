@@ -57,8 +57,8 @@ pub struct Record {
 }
 
 impl Record {
-    #[tactic(auto, unfolding(feeding::specs::Fed::words))]
     // All five, of a token that starts at `at`.
+    #[tactic(auto, unfolding(feeding::specs::Fed::words))]
     pub fn words(self, at: u32) -> [u32; RECORD]
         ensures { result ≡ words (rec_of at self ∷ []) }
     {

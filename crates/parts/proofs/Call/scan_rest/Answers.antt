@@ -1,6 +1,7 @@
+use mathlib.Core.Path.{refl}
 use native.Mathlib.Omega.{arith}
 use lib.ListN.{drop}
-use Rattle.parts.proofs.Checking.{Open, rest_within, rest_mark, rest_last, rest_bad, rest_open, rest_end, rest_short, rest_good}
+use Rattle.parts.proofs.Checking.{Open, rest_within, rest_mark, rest_last, rest_bad, rest_open, rest_end, rest_short, rest_good, front_long}
 use Rattle.parts.proofs.Call.scan_rest.Goals as goal
 use Rattle.parts.proofs.Call.scan_rest.Goals.{then-self-via-then-self, then-self-via-else-self+then-not-is_unfinished, then-until-self+else-d-lt-NO_CHAR+else-self+else-not-is_unfinished, else-until-self}
 
@@ -57,4 +58,10 @@ returns c =
       | then-until-self+else-d-lt-NO_CHAR+else-self+else-not-is_unfinished w ↦ rest_open a.self.last a.self.lexer.fed a.self.chunk.now a.from c.clean_up_to-clean.ensures w.decode-d.ensures w.if-until-self.true w.if-d-lt-NO_CHAR.false w.if-self.false w.is_unfinished.ensures w.if-not-is_unfinished.false
       | else-until-self w ↦ rest_end a.self.last a.self.lexer.fed a.self.chunk.now a.from c.clean_up_to-clean.ensures c.requires.0 w.if-until-self.false
     ] in
-    rest_good a.self.last a.self.lexer.fed a.self.chunk.now a.from c.clean_up_to-clean.ensures o c.holding.ensures
+    rest_good a.self.last a.self.lexer.fed a.self.chunk.now a.from c.clean_up_to-clean.ensures o refl refl c.holding.ensures
+
+pub slice_bounds-result-end : goal.slice_bounds-result-end
+slice_bounds-result-end c =
+    let a = c.args in
+    let w = rest_within a.self.last a.self.lexer.fed a.self.chunk.now a.from c.clean_up_to-clean.ensures c.requires.0 in
+    front_long a.self.last a.self.lexer.fed a.self.chunk.now a.from c.clean_up_to-clean.ensures w
