@@ -13,8 +13,8 @@ struct Digits {
     value: u32,
 }
 
-// The value of a hexadecimal digit, by its range. All three are asked, so that no jump depends on the digit, which cannot be guessed; so the value
-// of what is no digit is 16 until then.
+// The value of a hexadecimal digit, by its range. All three are asked, so that no jump depends on the digit, which cannot be guessed; until they are,
+// 16 stands for none.
 #[inline(always)]
 fn to_digit(c: u32) -> Option<u32>
     ensures { is_digit c result }
@@ -160,11 +160,7 @@ fn code_point(digits: Digits, mode: Mode) -> Result<u32, EscapeError>
 
 // Behind the digits of `\u{..}`.
 #[inline(always)]
-fn closing_brace(
-    chars: &mut Chars<'_>,
-    digits: Digits,
-    mode: Mode,
-) -> Result<u32, EscapeError>
+fn closing_brace(chars: &mut Chars<'_>, digits: Digits, mode: Mode) -> Result<u32, EscapeError>
     ensures { Scanned (closing (ascii_only mode) (digits.count, digits.value)) chars.old.text.now chars.old.at result chars.new.text.now chars.new.at }
 {
     match chars.next().ok_or(EscapeError::UnclosedUnicodeEscape)? {

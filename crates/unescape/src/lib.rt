@@ -13,11 +13,11 @@ mod list;
 
 use chars::Chars;
 pub use list::outcome;
+use modes::Mode;
 pub use modes::{
     EscapeError, byte_from_char, characters_should_be_ascii, in_double_quotes, is_fatal,
     is_unicode_escape_disallowed, prefix_noraw,
 };
-use modes::Mode;
 use text::{Refusal, check_text};
 
 pub fn unescape_literal(body: &[u8], mode: u32, list: &mut [u32]) -> Result<usize, Refusal>
