@@ -6,7 +6,7 @@ use native.Mathlib.Omega.{arith}
 use mathlib.Core.Path.{◌≡◌, refl, ap, sym, ◌∙◌, subst}
 use mathlib.Core.Logic.{◌⊎◌, inl, inr}
 use mathlib.Core.List.{List, [], ◌∷◌, ◌++◌}
-use lib.ListN.{length, take, drop, get_or, length-take, length-drop, drop_of_length-le}
+use lib.ListN.{length, take, drop, length-take, length-drop, drop_of_length-le}
 use lib.Seq.{sets, length-sets, take_all, take-nil}
 use lib.Dec.{ltb}
 use borrow.Author.Tests.{lt-ltb, le-ltb}
@@ -15,7 +15,7 @@ use Rattle.lists.proofs.Put.{sets_append}
 use Rattle.lists.proofs.Store.{stored_front}
 use Rattle.characters.proofs.Text.{point_at}
 use Rattle.characters.specs.Direction.{unmarked_up_to}
-use Rattle.text.specs.Answer.{Answered, done, direction_mark, longest, check_cut, CutMarked}
+use Rattle.text.specs.Answer.{done, direction_mark, longest, check_cut, CutMarked}
 use Rattle.text.specs.Steps.{Entered}
 use Rattle.text.proofs.Room as room
 use Rattle.text.specs.declared.Refusal.{Refusal}
@@ -28,14 +28,11 @@ use Rattle.cutters.specs.Underscores.{misplaced_in, misplaced_of}
 use Rattle.cutters.proofs.Underscores.{word_most}
 use Rattle.cutters.proofs.Records.{length_words, length_flat}
 use Rattle.lexer.specs.Cut.{Letters}
-use Rattle.lexer.specs.Unicode.{unicode, lent}
+use Rattle.lexer.specs.Unicode.{unicode}
 use Rattle.listing.specs.Steps.{Filled, StoredTokens, run_from}
 use Rattle.lexer.specs.Promises.{tokens3, tokens_of, front, tokens_by, Advanced}
 use Rattle.listing.specs.Promises.{answer_of, listed, Listed, run, CutRun, token_at, TokenAt}
 use Rattle.lexer.proofs.Places.{few_tokens, tokens_some, tokens_first, next_within, none_left, advanced_view, end_some, known3}
-use Rattle.lexer.proofs.Unicode.{lent_is}
-use Rattle.characters.specs.Ranges.{flat}
-use Rattle.ucd.specs.Ucd.{xid_start, xid_continue, emoji}
 
 -- ---- a run of tokens: to go on from here comes to the same
 pub record Filling (u : Letters) (profile : ℕ) (s : List ℕ) (from : ℕ) (list₀ : List ℕ) (full at k : ℕ) (list : List ℕ) : Type 0 where

@@ -139,14 +139,7 @@ fn record_size(body: u8, len: usize) -> usize
 }
 
 // Counts the bytes of a token in the key from place k on, and writes them where `write` says so.
-fn put_member(
-    key: &mut [u8],
-    write: bool,
-    k: usize,
-    kind: u32,
-    suffix: u32,
-    text: &[u8],
-) -> usize
+fn put_member(key: &mut [u8], write: bool, k: usize, kind: u32, suffix: u32, text: &[u8]) -> usize
     requires { Ready bodies write k kind suffix text.now key.old }
     ensures { PutIf write key.old k (entry (member kind suffix text.now)) key.new result }
 {

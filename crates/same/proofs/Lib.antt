@@ -1,3 +1,4 @@
+pub mod Counted
 pub mod Alike
 pub mod Ahead
 pub mod Parting

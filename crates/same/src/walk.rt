@@ -1,169 +1,99 @@
 // The counted tokens of two texts, side by side.
 ghost use Rattle.std.specs.Prelude.{◌≡◌, ◌≤◌, length};
 ghost use Rattle.text.specs.Answer.{longest};
-ghost use Rattle.lexer.specs.Unicode.{lent};
-ghost use Rattle.lexer.specs.Promises.{tokens3, tokens_by};
+ghost use Rattle.cutters.specs.Numbers.{kind_number};
+ghost use Rattle.lexer.specs.Unicode.{letters_in};
+ghost use Rattle.lexer.specs.Promises.{tokens_by};
 ghost use Rattle.tokens.specs.Members.{is_counted};
-ghost use Rattle.same.specs.Compare.{same_bytes, alike, parted_by, Compared, showing};
+ghost use Rattle.same.specs.Compare.{alike, parted_by};
 ghost use Rattle.same.specs.Steps.{Within, member_at, sight_at, Ahead};
+ghost use Rattle.same.specs.Told.{seen, told};
 
-use crate::{Comparison, DIFFERENT, SAME, Sight};
-use listing::token_at;
-use text::Answer;
-use ucd::tables;
+use crate::{Agreement, Comparison, Sight};
+use lexer::{Kind, Letters};
+use listing::{Piece, token_at};
 
-// A counted token by its places: its start, where its suffix starts, and its end.
+// A counted token, and where it starts.
 #[derive(Clone, Copy)]
 struct Found {
-    kind: u32,
     start: usize,
-    suffix: usize,
-    end: usize,
+    token: Piece,
+}
+
+impl Found {
+    fn sight(self) -> Sight
+        requires { self.start ≤ self.token.end }
+        ensures { seen result ≡ sight_at (kind_number self.token.kind) self.start self.token.end }
+    {
+        Sight {
+            kind: self.token.kind,
+            start: self.start,
+            len: self.token.end - self.start,
+        }
+    }
 }
 
 // Line comments, closed block comments and white space are uncounted.
-fn is_counted(kind: u32) -> bool
-    ensures { result ≡ is_counted kind }
+fn is_counted(kind: Kind) -> bool
+    ensures { result ≡ is_counted (kind_number kind) }
 {
     match kind {
-        1 => false, // LineComment
-        2 => false, // BlockComment, closed
-        4 => false, // Whitespace
+        Kind::BlockComment { terminated } => !terminated,
+        Kind::LineComment | Kind::Whitespace => false,
         _ => true,
     }
 }
 
-fn same_bytes(a: &[u8], b: &[u8]) -> bool
-    ensures { result ≡ same_bytes a.now b.now }
-{
-    if a.len() != b.len() {
-        return false;
-    }
-    let mut i = 0;
-    while i < a.len() {
-        if a[i] != b[i] {
-            return false;
-        }
-        i += 1;
-    }
-    true
-}
-
-// The first counted token at or behind a place. Where there is none, it is empty and stands at the end.
-fn next_counted(
-    text: &[u8],
-    from: usize,
-    profile: u32,
-    start: &[u32],
-    more: &[u32],
-    emoji: &[u32],
-) -> Found
+// The first counted token at or behind a place. Where there is none, it is the end.
+fn next_counted(text: &[u8], from: usize, profile: u32, letters: Letters<'_>) -> Found
     requires { (from ≤ length text.now) × (length text.now ≤ longest) }
-    ensures { Ahead (tokens_by (lent start.now more.now emoji.now) profile) text.now from result.kind result.start result.suffix result.end }
+    ensures { Ahead (tokens_by (letters_in letters.entry) profile) text.now from (kind_number result.token.kind) result.start result.token.suffix result.token.end }
 {
-    let mut at = from;
-    while at < text.len() {
-        let t = token_at(text, at, profile, start, more, emoji);
-        if is_counted(t.kind) {
-            return Found {
-                kind: t.kind,
-                start: at,
-                suffix: t.suffix,
-                end: t.end,
-            };
+    let mut start = from;
+    loop {
+        let token = token_at(text, start, profile, letters);
+        if is_counted(token.kind) {
+            return Found { start, token };
         }
-        at = t.end;
-    }
-    Found {
-        kind: 0,
-        start: at,
-        suffix: at,
-        end: at,
+        start = token.end;
     }
 }
 
+// In kind, suffix start and bytes. Kinds are compared by their numbers: what the derived `==` of a kind says did not prove.
 fn are_alike(old: &[u8], new: &[u8], p: Found, q: Found) -> bool
-    requires { (Within old.now p.start p.suffix p.end) × (Within new.now q.start q.suffix q.end) }
-    ensures { result ≡ alike (member_at old.now p.kind p.start p.suffix p.end) (member_at new.now q.kind q.start q.suffix q.end) }
+    requires old { Within old.now p.start p.token.suffix p.token.end }
+    requires new { Within new.now q.start q.token.suffix q.token.end }
+    ensures { result ≡ alike (member_at old.now (kind_number p.token.kind) p.start p.token.suffix p.token.end) (member_at new.now (kind_number q.token.kind) q.start q.token.suffix q.token.end) }
 {
-    if p.kind != q.kind {
-        return false;
-    }
-    if p.suffix - p.start != q.suffix - q.start {
-        return false;
-    }
-    let a = p.start;
-    let b = p.end;
-    let c = q.start;
-    let d = q.end;
-    same_bytes(&old[a..b], &new[c..d])
-}
-
-fn shown(verdict: u32, agreed: usize, p: Found, q: Found) -> Comparison
-    requires { (p.start ≤ p.end) × (q.start ≤ q.end) }
-    ensures { Compared (showing verdict agreed (sight_at p.kind p.start p.end) (sight_at q.kind q.start q.end)) result.verdict result.refusal.number result.refusal.also result.agreed result.old.kind result.old.start result.old.len result.new.kind result.new.start result.new.len }
-{
-    Comparison {
-        verdict,
-        refusal: Answer {
-            number: text::DONE,
-            also: 0,
-        },
-        agreed,
-        old: Sight {
-            kind: p.kind,
-            start: p.start,
-            len: p.end - p.start,
-        },
-        new: Sight {
-            kind: q.kind,
-            start: q.start,
-            len: q.end - q.start,
-        },
-    }
+    p.token.kind.number() == q.token.kind.number()
+        && p.token.suffix - p.start == q.token.suffix - q.start
+        && old[p.start..p.token.end] == new[q.start..q.token.end]
 }
 
 // Walks both texts until a counted token of one differs from that of the other, or both have no more.
-fn part(
-    old: &[u8],
-    new: &[u8],
-    profile: u32,
-    start: &[u32],
-    more: &[u32],
-    emoji: &[u32],
-) -> Comparison
+pub fn part(old: &[u8], new: &[u8], profile: u32, letters: Letters<'_>) -> Comparison
     requires { (length old.now ≤ longest) × (length new.now ≤ longest) }
-    ensures { Compared (parted_by (tokens_by (lent start.now more.now emoji.now) profile) old.now new.now) result.verdict result.refusal.number result.refusal.also result.agreed result.old.kind result.old.start result.old.len result.new.kind result.new.start result.new.len }
+    ensures { told result ≡ parted_by (tokens_by (letters_in letters.entry) profile) old.now new.now }
 {
     let mut a: usize = 0;
     let mut b: usize = 0;
-    let mut n: usize = 0;
+    let mut agreed: usize = 0;
     loop {
-        let p = next_counted(old, a, profile, start, more, emoji);
-        let q = next_counted(new, b, profile, start, more, emoji);
+        let p = next_counted(old, a, profile, letters);
+        let q = next_counted(new, b, profile, letters);
+        let agreement = Agreement {
+            agreed,
+            old: p.sight(),
+            new: q.sight(),
+        };
         if !are_alike(old, new, p, q) {
-            return shown(DIFFERENT, n, p, q);
+            return Comparison::Different(agreement);
         }
-        if p.start == p.end {
-            return shown(SAME, n, p, q);
+        if agreement.old.len == 0 {
+            return Comparison::Same(agreement);
         }
-        a = p.end;
-        b = q.end;
-        n += 1;
+        a = p.token.end;
+        b = q.token.end;
+        agreed += 1;
     }
-}
-
-// Lends the tables, once for both texts.
-pub fn lend(old: &[u8], new: &[u8], profile: u32) -> Comparison
-    requires { (length old.now ≤ longest) × (length new.now ≤ longest) }
-    ensures { Compared (parted_by (tokens3 profile) old.now new.now) result.verdict result.refusal.number result.refusal.also result.agreed result.old.kind result.old.start result.old.len result.new.kind result.new.start result.new.len }
-{
-    part(
-        old,
-        new,
-        profile,
-        &tables::XID_START,
-        &tables::XID_CONTINUE,
-        &tables::EMOJI,
-    )
 }
