@@ -1,6 +1,7 @@
-pub mod Records
 pub mod Cutter
-pub mod Starts
-pub mod Underscores
-pub mod Told
 pub mod Exactly
+pub mod Numbers
+pub mod Records
+pub mod Starts
+pub mod Told
+pub mod Underscores

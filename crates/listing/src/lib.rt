@@ -44,9 +44,9 @@ fn put(list: &mut [u32], k: usize, at: usize, t: Piece)
 // Fills the list with tokens from a place on, until it is full or the text ends. It is the one loop around the cutter, which is so
 // compiled into it. It counts words and not records: a record's first word is then found with nothing worked out. A loop over
 // `chunks_exact_mut` does not prove: what is written through a chunk is not known of the list afterwards.
-fn fill(text: &[u8], from: usize, profile: u32, list: &mut [u32], letters: Letters<'_>) -> Run
+fn fill(text: &[u8], from: usize, profile: u32, list: &mut [u32], letters: &Letters<'_>) -> Run
     requires { length text.now ≤ longest }
-    ensures { Filled (letters_in letters.entry) profile text.now from list.old result.at result.count list.new }
+    ensures { Filled (letters_in letters.now) profile text.now from list.old result.at result.count list.new }
 {
     let full = list.len() / RECORD * RECORD;
     let mut at = from;
@@ -70,9 +70,9 @@ pub fn cut_run(
     from: usize,
     profile: u32,
     list: &mut [u32],
-    letters: Letters<'_>,
+    letters: &Letters<'_>,
 ) -> Run
-    ensures { CutRun (letters_in letters.entry) profile text.now from list.old result.at result.count list.new }
+    ensures { CutRun (letters_in letters.now) profile text.now from list.old result.at result.count list.new }
 {
     if LONGEST < text.len() {
         return Run { at: from, count: 0 };
@@ -81,8 +81,8 @@ pub fn cut_run(
 }
 
 // The token at a place; where `cut_run` gives none, no kind and no length.
-pub fn token_at(text: &[u8], at: usize, profile: u32, letters: Letters<'_>) -> Piece
-    ensures { TokenAt (letters_in letters.entry) profile text.now at (kind_number result.kind) result.suffix result.misplaced result.end }
+pub fn token_at(text: &[u8], at: usize, profile: u32, letters: &Letters<'_>) -> Piece
+    ensures { TokenAt (letters_in letters.now) profile text.now at (kind_number result.kind) result.suffix result.misplaced result.end }
 {
     if LONGEST < text.len() {
         return Piece {
@@ -96,9 +96,9 @@ pub fn token_at(text: &[u8], at: usize, profile: u32, letters: Letters<'_>) -> P
 }
 
 // How many tokens a text has, by runs of 64.
-fn count(text: &[u8], profile: u32, letters: Letters<'_>) -> usize
+fn count(text: &[u8], profile: u32, letters: &Letters<'_>) -> usize
     requires { length text.now ≤ longest }
-    ensures { result ≡ length (tokens_by (letters_in letters.entry) profile text.now) }
+    ensures { result ≡ length (tokens_by (letters_in letters.now) profile text.now) }
 {
     let mut list = [0u32; RUN];
     let mut at: usize = 0;
@@ -117,10 +117,10 @@ fn store(
     text: &[u8],
     profile: u32,
     list: &mut [u32],
-    letters: Letters<'_>,
+    letters: &Letters<'_>,
 ) -> Result<usize, Refusal>
     requires { length text.now ≤ longest }
-    ensures { StoredTokens (letters_in letters.entry) profile text.now list.old (given result).0 (given result).1 list.new }
+    ensures { StoredTokens (letters_in letters.now) profile text.now list.old (given result).0 (given result).1 list.new }
 {
     let room = list.len() / RECORD;
     if room < text.len() {
@@ -138,5 +138,5 @@ pub fn tokenize(text: &[u8], profile: u32, list: &mut [u32]) -> Result<usize, Re
     ensures { Listed text.now profile list.old (given result).0 (given result).1 list.new }
 {
     check_cut(text, profile)?;
-    store(text, profile, list, Letters::unicode())
+    store(text, profile, list, &Letters::unicode())
 }

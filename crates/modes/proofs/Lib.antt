@@ -1,1 +1,2 @@
 pub mod RulesOut
+pub mod Numbers

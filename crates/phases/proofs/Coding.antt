@@ -55,3 +55,27 @@ code_back (P.quote b s) f = rw (flag_back b, seen_back s)
 code_back (P.quote_closed n) f = refl
 code_back (P.suffixed n) f = refl
 code_back (P.single n) f = refl
+
+-- ---- whatever the numbers are, a base is one of the four
+record Based (q : P.Phase) : Type 0 where
+  pub low : inBase q ≤ 3
+
+based_pick : (t : Bool) (p q : P.Phase) → Based p → Based q → Based (cond t p q)
+based_pick true p q f g = f
+based_pick false p q f g = g
+
+based_any : (q : P.Phase) → inBase q ≤ 3 → Based q
+based_any q f = record { low = f }
+
+nought : 0 ≤ 3
+nought = omega arith
+
+base_low : (a : ℕ) → min a 3 ≤ 3
+base_low a = omega arith
+
+based : (n a b : ℕ) → Based (phase_at n a b)
+unfolding phase_at
+based n a b = search (based_pick, based_any, nought, base_low) depth 30 fits 20000
+
+pub phase_based : (n a b : ℕ) → inBase (phase_at n a b) ≤ 3
+phase_based n a b = (based n a b).low

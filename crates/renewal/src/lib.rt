@@ -17,5 +17,5 @@ pub fn renewal_key(text: &[u8], profile: u32, key: &mut [u8]) -> Result<usize, R
     ensures { Keyed text.now profile key.old (given result).0 (given result).1 key.new }
 {
     check_cut(text, profile)?;
-    store(text, profile, key, Letters::unicode())
+    store(text, profile, key, &Letters::unicode())
 }

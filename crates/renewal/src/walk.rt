@@ -14,10 +14,10 @@ use listing::cut_run;
 use text::Refusal;
 
 // Sizes the key by runs of 64 tokens, and writes it where `write` says so.
-fn walk(text: &[u8], profile: u32, write: bool, key: &mut [u8], letters: Letters<'_>) -> usize
+fn walk(text: &[u8], profile: u32, write: bool, key: &mut [u8], letters: &Letters<'_>) -> usize
     requires short { length text.now ≤ longest }
-    requires room { write ≡ true → length (key_by (tokens_by (letters_in letters) profile) text.now) ≤ length key.old }
-    ensures { Walked (tokens_by (letters_in letters.entry) profile) text.now write key.old result key.new }
+    requires room { write ≡ true → length (key_by (tokens_by (letters_in letters.now) profile) text.now) ≤ length key.old }
+    ensures { Walked (tokens_by (letters_in letters.now) profile) text.now write key.old result key.new }
 {
     let mut list = [0u32; 64 * RECORD];
     let mut at: usize = 0;
@@ -36,10 +36,10 @@ pub fn store(
     text: &[u8],
     profile: u32,
     key: &mut [u8],
-    letters: Letters<'_>,
+    letters: &Letters<'_>,
 ) -> Result<usize, Refusal>
     requires { length text.now ≤ longest }
-    ensures { StoredKey (tokens_by (letters_in letters.entry) profile) text.now key.old (given result).0 (given result).1 key.new }
+    ensures { StoredKey (tokens_by (letters_in letters.now) profile) text.now key.old (given result).0 (given result).1 key.new }
 {
     if key.len() / 11 < text.len() {
         let need = walk(text, profile, false, key, letters);

@@ -70,9 +70,9 @@ fn judged(text: &[u8], profile: u32, room: usize) -> Result<(), Refusal>
 }
 
 // The record of the token at a place of the text.
-fn token_from(text: &[u8], at: usize, profile: u32, letters: Letters<'_>) -> Token
+fn token_from(text: &[u8], at: usize, profile: u32, letters: &Letters<'_>) -> Token
     requires { (length text.now ≤ longest) × (at < length text.now) }
-    ensures { result ≡ record_at (letters_in letters.entry) profile text.now at }
+    ensures { result ≡ record_at (letters_in letters.now) profile text.now at }
 {
     let mut words = [0; RECORD];
     cut_run(text, at, profile, &mut words, letters);
@@ -80,9 +80,9 @@ fn token_from(text: &[u8], at: usize, profile: u32, letters: Letters<'_>) -> Tok
 }
 
 // Stores the record of each token, and counts them. It counts by hand: what is written through `iter_mut` is not known of the row afterwards.
-fn fill(text: &[u8], profile: u32, row: &mut [Token], letters: Letters<'_>) -> usize
-    requires { (length text.now ≤ longest) × (length (tokens_by (letters_in letters) profile text.now) ≤ length row.old) }
-    ensures { Filled (letters_in letters.entry) profile text.now row.old result row.new }
+fn fill(text: &[u8], profile: u32, row: &mut [Token], letters: &Letters<'_>) -> usize
+    requires { (length text.now ≤ longest) × (length (tokens_by (letters_in letters.now) profile text.now) ≤ length row.old) }
+    ensures { Filled (letters_in letters.now) profile text.now row.old result row.new }
 {
     let mut n: usize = 0;
     let mut at: usize = 0;
@@ -100,7 +100,7 @@ pub fn tokenize_rows(text: &[u8], profile: u32, row: &mut [Token]) -> Result<usi
     ensures { Rowed text.now profile row.old (given result).0 (given result).1 row.new }
 {
     judged(text, profile, row.len())?;
-    Ok(fill(text, profile, row, Letters::unicode()))
+    Ok(fill(text, profile, row, &Letters::unicode()))
 }
 
 // A row by value, for a caller that holds no lent slice of structs.

@@ -11,21 +11,21 @@ use Rattle.rows.proofs.fill.Goals as goal
 pub bounds-row-n : goal.bounds-row-n
 bounds-row-n c =
     let v = c.loop-at.invariant in
-    let u = letters_in c.args.letters in
+    let u = letters_in c.args.letters.now in
     let k = not_all u c.args.profile c.args.text.now c.args.row.now c.loop-at.n v.few (rw (← v.place) c.loop-at-test.true) in
     omega (arith, k, ap length v.stored, row_length u c.args.profile c.args.text.now c.args.row.now c.loop-at.n, c.requires.1)
 
 pub loop-at-smaller : goal.loop-at-smaller
 loop-at-smaller c =
     let v = c.loop-at.invariant in
-    let u = letters_in c.args.letters in
+    let u = letters_in c.args.letters.now in
     let k : c.loop-at.n < length (tokens_by u c.args.profile c.args.text.now) = not_all u c.args.profile c.args.text.now c.args.row.now c.loop-at.n v.few (rw (← v.place) c.loop-at-test.true) in
     omega arith
 
 pub loop-at-preserved : goal.loop-at-preserved
 loop-at-preserved c =
     let v = c.loop-at.invariant in
-    let u = letters_in c.args.letters in
+    let u = letters_in c.args.letters.now in
     let k : c.loop-at.n < length (tokens_by u c.args.profile c.args.text.now) = not_all u c.args.profile c.args.text.now c.args.row.now c.loop-at.n v.few (rw (← v.place) c.loop-at-test.true) in
     record {
       few = omega arith;
@@ -36,5 +36,5 @@ loop-at-preserved c =
 pub returns : goal.returns
 returns c =
     let v = c.loop-at.invariant in
-    let u = letters_in c.args.letters in
+    let u = letters_in c.args.letters.now in
     rw v.stored (all_stored u c.args.profile c.args.text.now c.args.row.now c.loop-at.n v.few (rw (← v.place) c.loop-at-test.false) c.requires.1)

@@ -1,0 +1,67 @@
+-- A number stands for one mode alone, and for one error: so the promises that speak of `mode_number` and `error_number` leave one.
+-- Assumes nothing.
+use Rattle.std.specs.Prelude.{◌≡◌, refl, cond, List, [], ◌∷◌, ℕ, eqb}
+use mathlib.Core.Path.{sym, ap, ◌∙◌}
+use Rattle.modes.specs.declared.Mode.{Mode}
+use Rattle.modes.specs.declared.Mode.TheVariants as mode
+use Rattle.modes.specs.declared.errors.EscapeError.{EscapeError}
+use Rattle.modes.specs.declared.errors.EscapeError.TheVariants as error
+use Rattle.modes.specs.Numbers.{mode_number, error_number}
+
+-- the first of some values with this number, or x
+abbrev found : {A : Type 0} → (A → ℕ) → A → List A → ℕ → A
+found number x [] n = x
+found number x (a ∷ rest) n = cond (eqb n (number a)) a (found number x rest n)
+
+abbrev mode_at : ℕ → Mode
+mode_at =
+    found mode_number mode.Char
+    (mode.Char ∷ mode.Str ∷ mode.Byte ∷ mode.BitStr ∷ mode.ByteStr ∷ mode.RawStr ∷ mode.RawByteStr ∷ [])
+
+mode_back : (x : Mode) → mode_at (mode_number x) ≡ x
+mode_back mode.Char = refl
+mode_back mode.Str = refl
+mode_back mode.Byte = refl
+mode_back mode.BitStr = refl
+mode_back mode.ByteStr = refl
+mode_back mode.RawStr = refl
+mode_back mode.RawByteStr = refl
+
+pub mode_one : (x y : Mode) → mode_number x ≡ mode_number y → x ≡ y
+mode_one x y e = sym (mode_back x) ∙ ap mode_at e ∙ mode_back y
+
+abbrev error_at : ℕ → EscapeError
+error_at =
+    found error_number error.ZeroChars
+    (error.ZeroChars ∷ error.MoreThanOneChar ∷ error.LoneSlash ∷ error.InvalidEscape ∷ error.BareCarriageReturn ∷
+    error.BareCarriageReturnInRawString ∷ error.EscapeOnlyChar ∷ error.TooShortHexEscape ∷ error.InvalidCharInHexEscape ∷ error.OutOfRangeHexEscape ∷
+    error.NoBraceInUnicodeEscape ∷ error.InvalidCharInUnicodeEscape ∷ error.EmptyUnicodeEscape ∷ error.UnclosedUnicodeEscape ∷
+    error.LeadingUnderscoreUnicodeEscape ∷ error.OverlongUnicodeEscape ∷ error.LoneSurrogateUnicodeEscape ∷ error.OutOfRangeUnicodeEscape ∷
+    error.UnicodeEscapeInByte ∷ error.NonAsciiCharInByte ∷ error.UnskippedWhitespaceWarning ∷ error.MultipleSkippedLinesWarning ∷ [])
+
+error_back : (x : EscapeError) → error_at (error_number x) ≡ x
+error_back error.ZeroChars = refl
+error_back error.MoreThanOneChar = refl
+error_back error.LoneSlash = refl
+error_back error.InvalidEscape = refl
+error_back error.BareCarriageReturn = refl
+error_back error.BareCarriageReturnInRawString = refl
+error_back error.EscapeOnlyChar = refl
+error_back error.TooShortHexEscape = refl
+error_back error.InvalidCharInHexEscape = refl
+error_back error.OutOfRangeHexEscape = refl
+error_back error.NoBraceInUnicodeEscape = refl
+error_back error.InvalidCharInUnicodeEscape = refl
+error_back error.EmptyUnicodeEscape = refl
+error_back error.UnclosedUnicodeEscape = refl
+error_back error.LeadingUnderscoreUnicodeEscape = refl
+error_back error.OverlongUnicodeEscape = refl
+error_back error.LoneSurrogateUnicodeEscape = refl
+error_back error.OutOfRangeUnicodeEscape = refl
+error_back error.UnicodeEscapeInByte = refl
+error_back error.NonAsciiCharInByte = refl
+error_back error.UnskippedWhitespaceWarning = refl
+error_back error.MultipleSkippedLinesWarning = refl
+
+pub error_one : (x y : EscapeError) → error_number x ≡ error_number y → x ≡ y
+error_one x y e = sym (error_back x) ∙ ap error_at e ∙ error_back y
