@@ -57,5 +57,5 @@ pub fn compare(old: &[u8], new: &[u8], profile: u32) -> Comparison
     if let Err(refusal) = check_cut(new, profile) {
         return Comparison::NewRefused(refusal);
     }
-    part(old, new, profile, Letters::unicode())
+    part(old, new, profile, &Letters::unicode())
 }

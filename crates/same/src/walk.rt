@@ -45,9 +45,9 @@ fn is_counted(kind: Kind) -> bool
 }
 
 // The first counted token at or behind a place. Where there is none, it is the end.
-fn next_counted(text: &[u8], from: usize, profile: u32, letters: Letters<'_>) -> Found
+fn next_counted(text: &[u8], from: usize, profile: u32, letters: &Letters<'_>) -> Found
     requires { (from ≤ length text.now) × (length text.now ≤ longest) }
-    ensures { Ahead (tokens_by (letters_in letters.entry) profile) text.now from (kind_number result.token.kind) result.start result.token.suffix result.token.end }
+    ensures { Ahead (tokens_by (letters_in letters.now) profile) text.now from (kind_number result.token.kind) result.start result.token.suffix result.token.end }
 {
     let mut start = from;
     loop {
@@ -71,9 +71,9 @@ fn are_alike(old: &[u8], new: &[u8], p: Found, q: Found) -> bool
 }
 
 // Walks both texts until a counted token of one differs from that of the other, or both have no more.
-pub fn part(old: &[u8], new: &[u8], profile: u32, letters: Letters<'_>) -> Comparison
+pub fn part(old: &[u8], new: &[u8], profile: u32, letters: &Letters<'_>) -> Comparison
     requires { (length old.now ≤ longest) × (length new.now ≤ longest) }
-    ensures { told result ≡ parted_by (tokens_by (letters_in letters.entry) profile) old.now new.now }
+    ensures { told result ≡ parted_by (tokens_by (letters_in letters.now) profile) old.now new.now }
 {
     let mut a: usize = 0;
     let mut b: usize = 0;
