@@ -19,13 +19,13 @@ use Rattle.characters.proofs.Text.{bytes_chars}
 use Rattle.unescape.specs.declared.bodies.Step.{Step}
 use Rattle.modes.specs.declared.errors.EscapeError.{EscapeError}
 use Rattle.modes.specs.declared.errors.EscapeError.TheVariants as bad
-use Rattle.modes.specs.Numbers.{error_number}
+use Rattle.modes.specs.Numbers.{error_number, outcome_of}
 use Rattle.modes.specs.Modes.{is_raw, characters_should_be_ascii}
 use Rattle.modes.specs.Errors.{Outcome, char, error, number, multiple_skipped_lines_warning}
 use Rattle.unescape.specs.Chars.{rest_of, Next}
 use Rattle.unescape.specs.Escapes.{hex_escape, unicode_escape, simple, escape, ascii_check}
 use Rattle.unescape.specs.Bodies.{given, alone, is_escape_only, one_char, char_or_byte, str_char, raw_char, is_skipped, saw_lf, one, unskipped, skipped, slashed, str_common, raw_str, turn}
-use Rattle.unescape.specs.Steps.{outcome_of, step_of, item_from, space_from, Scanned, AteOn, Stepped, Behind, From}
+use Rattle.unescape.specs.Steps.{step_of, item_from, space_from, Scanned, AteOn, Stepped, Behind, From}
 use Rattle.unescape.proofs.Scans.{next_none, next_some, next_onward, scanned_end, scanned_same, scanned_stay}
 use Rattle.unescape.proofs.Escaping.{escape_none, escape_hex, escape_unicode, escape_simple}
 

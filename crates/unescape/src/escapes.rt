@@ -1,7 +1,8 @@
 // Escapes: what stands behind a backslash.
 ghost use Rattle.std.specs.Prelude.{◌≡◌, ◌<◌, IfSome, IfOk};
 ghost use Rattle.unescape.specs.Escapes.{to_digit, hex_digit, hex_escape, first_digit, or_underscore, add_digit, code_point, closing, braced, unicode_escape, simple, escape, ascii_check};
-ghost use Rattle.unescape.specs.Steps.{outcome_of, ascii_only, is_digit, with_digit, Scanned, AteOn};
+ghost use Rattle.modes.specs.Numbers.{outcome_of};
+ghost use Rattle.unescape.specs.Steps.{ascii_only, is_digit, with_digit, Scanned, AteOn};
 
 use crate::chars::Chars;
 use modes::{EscapeError, Mode};

@@ -5,9 +5,9 @@ ghost use Rattle.characters.specs.Utf8.{chars};
 ghost use Rattle.text.specs.Answer.{longest};
 ghost use Rattle.text.specs.Refusals.{given};
 ghost use Rattle.modes.specs.Errors.{number};
-ghost use Rattle.modes.specs.Numbers.{mode_number};
+ghost use Rattle.modes.specs.Numbers.{mode_number, outcome_of};
 ghost use Rattle.unescape.specs.Bodies.{char_or_byte, one, turns, items_of, flat};
-ghost use Rattle.unescape.specs.Steps.{outcome_of, ascii_only, item_words, writes, Walked, StoredItems};
+ghost use Rattle.unescape.specs.Steps.{ascii_only, item_words, writes, Walked, StoredItems};
 
 use crate::bodies::{turn, unescape_char_or_byte};
 use crate::chars::Chars;
