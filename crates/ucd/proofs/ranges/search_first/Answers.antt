@@ -5,7 +5,7 @@ use Rattle.characters.specs.Ranges.{◌to◌, in_range}
 use native.Mathlib.Omega.{arith}
 use Rattle.ucd.proofs.Search.{search_none, search_starts, searched_by, searching_on, searching_fits, searching_within}
 use borrow.Author.Rules.{rules}
-use Rattle.ucd.proofs.ranges.search.Goals as goal
+use Rattle.ucd.proofs.ranges.search_first.Goals as goal
 
 pub returns-then-p-eq0 : goal.returns-then-p-eq0
 returns-then-p-eq0 c = search (rules, search_none)
@@ -48,4 +48,4 @@ returns c =
     let t = c.args.table.now in
     let k = c.last_of-k.result in
     let e : c.contains.result ≡ in_range c.args.c (get_or t (2 * k) 0 to get_or t (2 * k + 1) 0) = search rules in
-    e ∙ sym (searched_by t c.args.c c.among.ensures c.if-p-eq0.false (c.last_of-k.ensures ∙ c.loop-p.invariant.same))
+    e ∙ sym (searched_by t c.args.c c.requires c.if-p-eq0.false (c.last_of-k.ensures ∙ c.loop-p.invariant.same))
