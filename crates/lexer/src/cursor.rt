@@ -16,7 +16,7 @@ use characters::utf8::{code, decode};
 use letters::is_whitespace;
 use std::num::NonZeroUsize;
 
-// A place in the text; each step says that it stays in it.
+// A place in the text. It does not hold the text: with it the same code takes 6 per cent more instructions on programs, compiled by rustc.
 #[derive(Clone, Copy)]
 pub struct Cursor {
     pub at: usize,

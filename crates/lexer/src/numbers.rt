@@ -88,8 +88,8 @@ fn point(text: &[u8], from: Cursor, base: Base, found: Option<NonZeroUsize>) -> 
     }
 }
 
-// Behind the digits of a base: a point, an exponent, or nothing. Placed in line, as most numbers end here: a call takes 15 instructions more for
-// each number.
+// Behind the digits of a base: a point, an exponent, or nothing. Placed in line, as most numbers end here: a call takes some forty instructions more
+// for each number.
 #[inline(always)]
 fn fraction(text: &[u8], from: Cursor, base: Base, found: Option<NonZeroUsize>) -> Figures
     requires { from.at ≤ length text.now }
