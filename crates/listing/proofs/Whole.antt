@@ -6,7 +6,7 @@ use native.Mathlib.Omega.{arith}
 use mathlib.Core.Path.{◌≡◌, refl, ap, sym, ◌∙◌, subst}
 use mathlib.Core.Logic.{◌⊎◌, inl, inr}
 use mathlib.Core.List.{List, [], ◌∷◌, ◌++◌}
-use lib.ListN.{length, take, drop, length-take, length-drop, drop_of_length-le}
+use lib.ListN.{length, take, drop, get_or, length-take, length-drop, drop_of_length-le}
 use lib.Seq.{sets, length-sets, take_all, take-nil}
 use lib.Dec.{ltb}
 use borrow.Author.Tests.{lt-ltb, le-ltb}
@@ -265,6 +265,27 @@ module _ (u : Letters) (profile : ℕ) (s : List ℕ) (at : ℕ) where
         found_is = a.found_is ∙ ap (misplaced_at s at) e;
         end_is = a.end_is ∙ ap (λ (t : Token). at + t.len) e;
       }
+
+-- ---- as the words of a run tell it
+-- a record of noughts, and the words of at most one token before it
+abbrev none : List ℕ
+none = 0 ∷ 0 ∷ 0 ∷ 0 ∷ 0 ∷ []
+
+one_words : (s : List ℕ) (at : ℕ) (l : List Token) → length l ≤ 1 → {list : List ℕ} → list ≡ flat_from s at l ++ drop (length (flat_from s at l)) none → (get_or list 0 0 ≡ (front l).kind) × (get_or list 2 0 ≡ (front l).suffix) × (get_or list 4 0 ≡ misplaced_at s at (front l)) × (total l ≡ (front l).len)
+unfolding flat_from front misplaced_of misplaced_in
+one_words s at [] h e = (ap (λ (l : List ℕ). get_or l 0 0) e, ap (λ (l : List ℕ). get_or l 2 0) e, ap (λ (l : List ℕ). get_or l 4 0) e, refl)
+one_words s at (t ∷ []) h e = (ap (λ (l : List ℕ). get_or l 0 0) e, ap (λ (l : List ℕ). get_or l 2 0) e, ap (λ (l : List ℕ). get_or l 4 0) e, omega arith)
+one_words s at (t ∷ t' ∷ ts) h e = absurd (omega arith)
+
+one_few : (u : Letters) (profile : ℕ) (s : List ℕ) (at : ℕ) → length (run u profile s at 1) ≤ 1
+unfolding run
+one_few u profile s at =
+    by_test (ltb longest (length s)) (λ t. rw t (omega arith)) (λ t. rw t (omega (arith, length-take 1 (tokens_by u profile (drop at s)))))
+
+pub run_token : {u : Letters} {profile : ℕ} {s list' : List ℕ} {at end count : ℕ} → CutRun u profile s at none end count list' → TokenAt u profile s at (get_or list' 0 0) (at + get_or list' 2 0) (get_or list' 4 0) end
+run_token {u} {profile} {s} {at = at} r =
+    let w = one_words s at (run u profile s at 1) (one_few u profile s at) r.words in
+    record { kind_is = w.0; suffix_is = ap (λ (n : ℕ). at + n) w.1; found_is = w.2; end_is = r.reached ∙ ap (λ (n : ℕ). at + n) w.3 }
 
 -- a place of the token is at or behind its start, and within the text
 module _ {u : Letters} {profile : ℕ} {s : List ℕ} {at kind suffixAt found end : ℕ} (a : TokenAt u profile s at kind suffixAt found end) where

@@ -1,4 +1,3 @@
-pub mod Counted
 pub mod Alike
 pub mod Ahead
 pub mod Parting

@@ -2,7 +2,6 @@
 ghost use Rattle.std.specs.Prelude.{◌≡◌};
 
 use crate::{Agreement, Comparison, Sight};
-use lexer::Kind;
 use text::Answer;
 
 // The verdicts.
@@ -14,14 +13,6 @@ pub const OLD_REFUSED: u32 = 2;
 
 pub const NEW_REFUSED: u32 = 3;
 
-#[repr(C)]
-#[derive(Clone, Copy)]
-pub struct SightAnswer {
-    pub kind: u32,
-    pub start: usize,
-    pub len: usize,
-}
-
 // The verdict; the answer to the text that was refused; how many counted tokens agree, from the first on; and what stands
 // behind those in each text.
 #[repr(C)]
@@ -30,28 +21,13 @@ pub struct ComparisonAnswer {
     pub verdict: u32,
     pub refusal: Answer,
     pub agreed: usize,
-    pub old: SightAnswer,
-    pub new: SightAnswer,
-}
-
-impl From<Sight> for SightAnswer {
-    ghost use Rattle.same.specs.Compare.{Shown};
-    ghost use Rattle.same.specs.Told.{seen};
-
-    ghost from_gives = { λ v a. Shown (seen v) a.kind a.start a.len };
-
-    fn from(sight: Sight) -> SightAnswer {
-        SightAnswer {
-            kind: sight.kind.number(),
-            start: sight.start,
-            len: sight.len,
-        }
-    }
+    pub old: Sight,
+    pub new: Sight,
 }
 
 // What is told of a text that is refused.
 const NOTHING: Sight = Sight {
-    kind: Kind::Eof,
+    kind: 0,
     start: 0,
     len: 0,
 };
@@ -79,8 +55,8 @@ impl From<Comparison> for ComparisonAnswer {
             verdict,
             refusal: Answer::from(refusal),
             agreed: agreement.agreed,
-            old: SightAnswer::from(agreement.old),
-            new: SightAnswer::from(agreement.new),
+            old: agreement.old,
+            new: agreement.new,
         }
     }
 }

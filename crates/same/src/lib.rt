@@ -9,16 +9,17 @@ mod answer;
 mod places;
 mod walk;
 
-pub use answer::{ComparisonAnswer, SightAnswer};
-use lexer::{Kind, Letters};
+pub use answer::{ComparisonAnswer, DIFFERENT, NEW_REFUSED, OLD_REFUSED, SAME};
+use lexer::Letters;
 pub use places::place_of;
 use text::{Refusal, check_cut};
 use walk::part;
 
-// A counted token: its kind, where it starts and its length in bytes. The end of a text is Eof and has no length, as a cutter tells it.
+// A counted token: its kind's number, where it starts and its length in bytes. At the end of a text kind and length are 0. C gets it so too.
+#[repr(C)]
 #[derive(Clone, Copy, Debug, PartialEq, Eq)]
 pub struct Sight {
-    pub kind: Kind,
+    pub kind: u32,
     pub start: usize,
     pub len: usize,
 }

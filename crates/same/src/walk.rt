@@ -1,7 +1,6 @@
 // The counted tokens of two texts, side by side.
 ghost use Rattle.std.specs.Prelude.{◌≡◌, ◌≤◌, length};
 ghost use Rattle.text.specs.Answer.{longest};
-ghost use Rattle.cutters.specs.Numbers.{kind_number};
 ghost use Rattle.lexer.specs.Unicode.{letters_in};
 ghost use Rattle.lexer.specs.Promises.{tokens_by};
 ghost use Rattle.tokens.specs.Members.{is_counted};
@@ -10,64 +9,76 @@ ghost use Rattle.same.specs.Steps.{Within, member_at, sight_at, Ahead};
 ghost use Rattle.same.specs.Told.{seen, told};
 
 use crate::{Agreement, Comparison, Sight};
-use lexer::{Kind, Letters};
-use listing::{Piece, token_at};
+use cutters::RECORD;
+use lexer::Letters;
+use listing::cut_run;
 
-// A counted token, and where it starts.
+// A counted token by its kind's number and its places: its start, where its suffix starts, and its end.
 #[derive(Clone, Copy)]
 struct Found {
+    kind: u32,
     start: usize,
-    token: Piece,
+    suffix: usize,
+    end: usize,
 }
 
 impl Found {
     fn sight(self) -> Sight
-        requires { self.start ≤ self.token.end }
-        ensures { seen result ≡ sight_at (kind_number self.token.kind) self.start self.token.end }
+        requires { self.start ≤ self.end }
+        ensures { seen result ≡ sight_at self.kind self.start self.end }
     {
         Sight {
-            kind: self.token.kind,
+            kind: self.kind,
             start: self.start,
-            len: self.token.end - self.start,
+            len: self.end - self.start,
         }
     }
 }
 
 // Line comments, closed block comments and white space are uncounted.
-fn is_counted(kind: Kind) -> bool
-    ensures { result ≡ is_counted (kind_number kind) }
+fn is_counted(kind: u32) -> bool
+    ensures { result ≡ is_counted kind }
 {
     match kind {
-        Kind::BlockComment { terminated } => !terminated,
-        Kind::LineComment | Kind::Whitespace => false,
+        1 => false, // LineComment
+        2 => false, // BlockComment, closed
+        4 => false, // Whitespace
         _ => true,
     }
 }
 
-// The first counted token at or behind a place. Where there is none, it is the end.
+// The first counted token at or behind a place. Where there is none, it is Eof, which counts, and the end. By runs of one, whose words have
+// the numbers of kinds: `listing::token_at` would be a second caller of the cutter.
 fn next_counted(text: &[u8], from: usize, profile: u32, letters: &Letters<'_>) -> Found
     requires { (from ≤ length text.now) × (length text.now ≤ longest) }
-    ensures { Ahead (tokens_by (letters_in letters.now) profile) text.now from (kind_number result.token.kind) result.start result.token.suffix result.token.end }
+    ensures { Ahead (tokens_by (letters_in letters.now) profile) text.now from result.kind result.start result.suffix result.end }
 {
     let mut start = from;
     loop {
-        let token = token_at(text, start, profile, letters);
-        if is_counted(token.kind) {
-            return Found { start, token };
+        let mut words = [0; RECORD];
+        let end = cut_run(text, start, profile, &mut words, letters).at;
+        let [kind, _, suffix, _, _] = words;
+        if is_counted(kind) {
+            return Found {
+                kind,
+                start,
+                suffix: start + suffix as usize,
+                end,
+            };
         }
-        start = token.end;
+        start = end;
     }
 }
 
-// In kind, suffix start and bytes. Kinds are compared by their numbers: what the derived `==` of a kind says did not prove.
+// In kind, suffix start and bytes.
 fn are_alike(old: &[u8], new: &[u8], p: Found, q: Found) -> bool
-    requires old { Within old.now p.start p.token.suffix p.token.end }
-    requires new { Within new.now q.start q.token.suffix q.token.end }
-    ensures { result ≡ alike (member_at old.now (kind_number p.token.kind) p.start p.token.suffix p.token.end) (member_at new.now (kind_number q.token.kind) q.start q.token.suffix q.token.end) }
+    requires old { Within old.now p.start p.suffix p.end }
+    requires new { Within new.now q.start q.suffix q.end }
+    ensures { result ≡ alike (member_at old.now p.kind p.start p.suffix p.end) (member_at new.now q.kind q.start q.suffix q.end) }
 {
-    p.token.kind.number() == q.token.kind.number()
-        && p.token.suffix - p.start == q.token.suffix - q.start
-        && old[p.start..p.token.end] == new[q.start..q.token.end]
+    p.kind == q.kind
+        && p.suffix - p.start == q.suffix - q.start
+        && old[p.start..p.end] == new[q.start..q.end]
 }
 
 // Walks both texts until a counted token of one differs from that of the other, or both have no more.
@@ -92,8 +103,8 @@ pub fn part(old: &[u8], new: &[u8], profile: u32, letters: &Letters<'_>) -> Comp
         if agreement.old.len == 0 {
             return Comparison::Same(agreement);
         }
-        a = p.token.end;
-        b = q.token.end;
+        a = p.end;
+        b = q.end;
         agreed += 1;
     }
 }

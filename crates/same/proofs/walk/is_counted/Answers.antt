@@ -1,11 +1,22 @@
-use Rattle.same.proofs.Counted.{comment_counts, line_uncounted, others_count}
+use native.Mathlib.Omega.{arith}
+use borrow.Author.Tests.{ne_eqb}
+use Rattle.tokens.specs.Members.{is_counted}
 use Rattle.same.proofs.walk.is_counted.Goals as goal
 
-pub returns-in-BlockComment : goal.returns-in-BlockComment
-returns-in-BlockComment c = comment_counts c.args.kind _ c.in-BlockComment.is
+pub returns-in-1 : goal.returns-in-1
+unfolding is_counted
+returns-in-1 c = rw c.in-1.is
 
-pub returns-in-LineComment : goal.returns-in-LineComment
-returns-in-LineComment c = line_uncounted c.args.kind c.in-LineComment.is
+pub returns-in-2 : goal.returns-in-2
+unfolding is_counted
+returns-in-2 c = rw c.in-2.is
+
+pub returns-in-4 : goal.returns-in-4
+unfolding is_counted
+returns-in-4 c = rw c.in-4.is
 
 pub returns-in_default : goal.returns-in_default
-returns-in_default c = others_count c.args.kind c.in_default.not-LineComment c.in_default.not-BlockComment c.in_default.not-Whitespace
+unfolding is_counted
+returns-in_default c =
+    let k = c.args.kind in
+    simp (ne_eqb k 4 (λ e. omega arith), ne_eqb k 2 (λ e. omega arith), ne_eqb k 1 (λ e. omega arith))
