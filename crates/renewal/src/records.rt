@@ -1,4 +1,5 @@
-// The records of the key, written into lent bytes.
+// The records of the key, written into lent bytes. Each function is lent the key and a place in it, and answers the place behind what it wrote: a
+// struct that holds both would have to be lent and told in the same clauses.
 ghost use Rattle.std.specs.Prelude.{◌≡◌, [], ◌∷◌, ◌++◌, ◌+◌, ◌*◌, ◌≤◌, length, take, drop};
 ghost use Rattle.lists.specs.Steps.{Put, PutIf};
 ghost use Rattle.text.specs.Answer.{longest};
