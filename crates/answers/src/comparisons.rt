@@ -2,11 +2,11 @@
 // kind, start and length of what stands behind those in each text.
 use crate::output::Result;
 use crate::words::{TEXT, Words, bytes, number};
-use same::{ComparisonAnswer, SightAnswer};
+use same::{ComparisonAnswer, Sight};
 use std::io;
 
-fn print_sight(rt: &impl Print, sight: SightAnswer) -> io::Result<()> {
-    let SightAnswer { kind, start, len } = sight;
+fn print_sight(rt: &impl Print, sight: Sight) -> io::Result<()> {
+    let Sight { kind, start, len } = sight;
     print!(rt; " {kind},{start},{len}")
 }
 

@@ -1,10 +1,11 @@
 -- The numbers that stand for the kinds that code holds.
 -- Assumes nothing.
-use Rattle.std.specs.Prelude.{ℕ, true, false}
+use Rattle.std.specs.Prelude.{◌≡◌, ℕ, Bool, true, false, not, ◌&&◌, eqb, leb, Result, MatchResult}
 use Rattle.cutters.specs.declared.kinds.Base.{Base}
 use Rattle.cutters.specs.declared.kinds.Base.TheVariants.{Binary, Octal, Decimal, Hexadecimal}
 use Rattle.cutters.specs.declared.kinds.Kind.{Kind}
 use Rattle.cutters.specs.declared.kinds.Kind.TheVariants as kind
+use Rattle.cutters.specs.declared.kinds.UnknownKind.{UnknownKind}
 use Rattle.cutters.specs.Kinds.{eof, line_comment, block_comment, unclosed_comment, whitespace_kind, ident, hardware_ident, invalid_ident, pragma, annotation, at_sign, dollar, slash_mark, unknown, int, float, str, bit_str}
 
 -- the place of a base
@@ -56,3 +57,11 @@ kind_number (kind.Int base empty) = int (base_number base) empty
 kind_number (kind.Float base empty) = float (base_number base) empty
 kind_number (kind.Str terminated) = str terminated
 kind_number (kind.BitStr terminated twice) = bit_str terminated twice
+
+-- the numbers of kinds: 0 to 61 but 20, 38 and 39
+abbrev pub known_kind : ℕ → Bool
+known_kind n = leb n 61 && (not (eqb n 20) && (not (eqb n 38) && not (eqb n 39)))
+
+-- the kind with this number; of any other number, a refusal that names it
+abbrev pub is_kind_of : ℕ → Result Kind UnknownKind → Type 0
+is_kind_of n r = MatchResult r (λ k. kind_number k ≡ n) (λ e. (e.0 ≡ n) × (known_kind n ≡ false))

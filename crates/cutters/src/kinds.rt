@@ -1,6 +1,6 @@
 // The kinds of tokens, by the names of the Rust's TokenKind, LiteralKind and Base, and the numbers that stand for them in records.
 ghost use Rattle.std.specs.Prelude.{◌≡◌};
-ghost use Rattle.cutters.specs.Numbers.{base_number, kind_number};
+ghost use Rattle.cutters.specs.Numbers.{base_number, kind_number, is_kind_of};
 
 // In the order of the places that kinds count.
 #[derive(Clone, Copy, Debug, PartialEq, Eq)]
@@ -129,5 +129,141 @@ impl Kind {
                 consecutive_underscores,
             } => 58 + terminated as u32 + 2 * consecutive_underscores as u32,
         }
+    }
+}
+
+// A number that stands for no kind.
+#[derive(Clone, Copy, Debug, PartialEq, Eq)]
+pub struct UnknownKind(pub u32);
+
+impl TryFrom<u32> for Kind {
+    type Error = UnknownKind;
+
+    ghost try_from_gives = { is_kind_of };
+
+    fn try_from(number: u32) -> Result<Kind, UnknownKind> {
+        let kind = match number {
+            0 => Kind::Eof,
+            1 => Kind::LineComment,
+            2 => Kind::BlockComment { terminated: true },
+            3 => Kind::BlockComment { terminated: false },
+            4 => Kind::Whitespace,
+            5 => Kind::Ident,
+            6 => Kind::HardwareIdent,
+            7 => Kind::InvalidIdent,
+            8 => Kind::Pragma,
+            9 => Kind::Annotation,
+            10 => Kind::Semi,
+            11 => Kind::Comma,
+            12 => Kind::Dot,
+            13 => Kind::OpenParen,
+            14 => Kind::CloseParen,
+            15 => Kind::OpenBrace,
+            16 => Kind::CloseBrace,
+            17 => Kind::OpenBracket,
+            18 => Kind::CloseBracket,
+            19 => Kind::At,
+            21 => Kind::Tilde,
+            22 => Kind::Question,
+            23 => Kind::Colon,
+            24 => Kind::Dollar,
+            25 => Kind::Eq,
+            26 => Kind::Bang,
+            27 => Kind::Lt,
+            28 => Kind::Gt,
+            29 => Kind::Minus,
+            30 => Kind::And,
+            31 => Kind::Or,
+            32 => Kind::Plus,
+            33 => Kind::Star,
+            34 => Kind::Slash,
+            35 => Kind::Caret,
+            36 => Kind::Percent,
+            37 => Kind::Unknown,
+            40 => Kind::Int {
+                base: Base::Binary,
+                empty_int: false,
+            },
+            41 => Kind::Int {
+                base: Base::Binary,
+                empty_int: true,
+            },
+            42 => Kind::Int {
+                base: Base::Octal,
+                empty_int: false,
+            },
+            43 => Kind::Int {
+                base: Base::Octal,
+                empty_int: true,
+            },
+            44 => Kind::Int {
+                base: Base::Decimal,
+                empty_int: false,
+            },
+            45 => Kind::Int {
+                base: Base::Decimal,
+                empty_int: true,
+            },
+            46 => Kind::Int {
+                base: Base::Hexadecimal,
+                empty_int: false,
+            },
+            47 => Kind::Int {
+                base: Base::Hexadecimal,
+                empty_int: true,
+            },
+            48 => Kind::Float {
+                base: Base::Binary,
+                empty_exponent: false,
+            },
+            49 => Kind::Float {
+                base: Base::Binary,
+                empty_exponent: true,
+            },
+            50 => Kind::Float {
+                base: Base::Octal,
+                empty_exponent: false,
+            },
+            51 => Kind::Float {
+                base: Base::Octal,
+                empty_exponent: true,
+            },
+            52 => Kind::Float {
+                base: Base::Decimal,
+                empty_exponent: false,
+            },
+            53 => Kind::Float {
+                base: Base::Decimal,
+                empty_exponent: true,
+            },
+            54 => Kind::Float {
+                base: Base::Hexadecimal,
+                empty_exponent: false,
+            },
+            55 => Kind::Float {
+                base: Base::Hexadecimal,
+                empty_exponent: true,
+            },
+            56 => Kind::Str { terminated: false },
+            57 => Kind::Str { terminated: true },
+            58 => Kind::BitStr {
+                terminated: false,
+                consecutive_underscores: false,
+            },
+            59 => Kind::BitStr {
+                terminated: true,
+                consecutive_underscores: false,
+            },
+            60 => Kind::BitStr {
+                terminated: false,
+                consecutive_underscores: true,
+            },
+            61 => Kind::BitStr {
+                terminated: true,
+                consecutive_underscores: true,
+            },
+            _ => return Err(UnknownKind(number)),
+        };
+        Ok(kind)
     }
 }

@@ -3,7 +3,7 @@
 
 mod kinds;
 
-pub use kinds::{Base, Kind};
+pub use kinds::{Base, Kind, UnknownKind};
 
 // A token: its kind, the place where its suffix starts (of a literal with none, its end; of all else, its own start), how far into it its
 // first misplaced underscore stands, 0 for none, and its end.

@@ -70,8 +70,7 @@ fn print_sight(rt: &impl Print, label: &str, text: &[u8], sight: Sight) -> io::R
     if len == 0 {
         return print!(rt; ", {label} end");
     }
-    let name = Name(kind);
-    let kind = kind.number();
+    let name = Name(Kind::try_from(kind).unwrap_or(Kind::Unknown));
     print!(rt; ", {label} kind {kind} ({name}) start {start} length {len}")?;
     print_place(rt, text, start)
 }
