@@ -1,8 +1,7 @@
 // What is printed. A write that fails ends the program.
 ghost use Rattle.std.specs.Prelude.{◌<◌};
 
-use std::fmt;
-use std::io;
+use std::{fmt, io};
 use text::{Answer, Refusal};
 
 // Why a line is not answered by its task.

@@ -16,7 +16,11 @@ use text::Answer;
 use unescape::unescape_literal;
 
 // What a call answers to a text.
-fn text<A: Into<Answer>, F: Fn(&[u8]) -> A>(rt: &impl Print, words: Words<'_>, call: F) -> Result<()>
+fn text<A: Into<Answer>, F: Fn(&[u8]) -> A>(
+    rt: &impl Print,
+    words: Words<'_>,
+    call: F,
+) -> Result<()>
     requires { F.IsAlwaysCallable call }
 {
     let mut room = [0u8; TEXT];

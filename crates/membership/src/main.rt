@@ -21,7 +21,9 @@ fn begins<F: Fn(u32) -> bool>(test: &F, c: u32) -> bool
 fn print_counts<F: Fn(u32) -> bool>(rt: &impl Print, name: &str, test: &F) -> io::Result<()>
     requires { F.IsAlwaysCallable test.now }
 {
-    let asked = (0..=0x10FFFF).filter(|c| char::from_u32(*c).is_some()).count();
+    let asked = (0..=0x10FFFF)
+        .filter(|c| char::from_u32(*c).is_some())
+        .count();
     let members = (0..=0x10FFFF).filter(|c| holds(test, *c)).count();
     let ranges = (0..=0x10FFFF).filter(|c| begins(test, *c)).count();
     println!(rt; "{name} asked {asked} members {members} ranges {ranges}")

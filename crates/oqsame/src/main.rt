@@ -137,7 +137,11 @@ fn read_file<'a>(rt: &impl Files, name: &[u8], room: &'a mut [u8]) -> Result<&'a
     }
 }
 
-fn read_input<'a>(rt: &impl Files, name: &'a [u8], room: &'a mut [u8]) -> Result<Input<'a>, Trouble<'a>> {
+fn read_input<'a>(
+    rt: &impl Files,
+    name: &'a [u8],
+    room: &'a mut [u8],
+) -> Result<Input<'a>, Trouble<'a>> {
     match read_file(rt, name, room) {
         Ok(text) => Ok(Input { name, text }),
         Err(fault) => Err(Trouble { what: name, fault }),
@@ -145,7 +149,12 @@ fn read_input<'a>(rt: &impl Files, name: &'a [u8], room: &'a mut [u8]) -> Result
 }
 
 // The word behind the program's own name, or the system's word for why it was not read.
-fn read_name<'a>(rt: &impl Env, i: usize, what: &'a [u8], room: &'a mut [u8]) -> Result<&'a [u8], Trouble<'a>> {
+fn read_name<'a>(
+    rt: &impl Env,
+    i: usize,
+    what: &'a [u8],
+    room: &'a mut [u8],
+) -> Result<&'a [u8], Trouble<'a>> {
     let number = match rt.arg(i, room) {
         Ok(n) => return Ok(&room[..n]),
         Err(FillError::NotPresent) => EINVAL,
@@ -207,8 +216,15 @@ fn run(rt: &HostRuntime, words: usize, first: &[u8]) -> io::Result<()> {
     let mut old = [0u8; MOST];
     let mut new_name = [0u8; NAME];
     let mut new = [0u8; MOST];
-    compare(rt, profile, &mut old_name, &mut old, &mut new_name, &mut new)
-        .or_else(|trouble| tell(rt, trouble))
+    compare(
+        rt,
+        profile,
+        &mut old_name,
+        &mut old,
+        &mut new_name,
+        &mut new,
+    )
+    .or_else(|trouble| tell(rt, trouble))
 }
 
 // How many words the program was called by, its own name among them.
