@@ -18,6 +18,7 @@ mod kinds;
 
 ghost use Rattle.std.specs.Prelude.{◌≤◌, length};
 
+use cutters::Kind;
 use kinds::Name;
 use same::{Agreement, Comparison, Place, Sight};
 use std::env::FillError;
