@@ -21,6 +21,7 @@ pub struct Block {
     pub cursor: Cursor,
 }
 
+// This test and the next are each the code of a definition, `opens` and `closes`: one for any two bytes would be neither's.
 fn is_open(text: &[u8], at: usize) -> bool
     requires { at < length text.now }
     ensures { result ≡ opens (get_or text.now at 0) (get_or text.now (at + 1) 0) }
@@ -35,7 +36,8 @@ fn is_close(text: &[u8], at: usize) -> bool
     byte(text, at) == 0x2A && byte(text, at + 1) == 0x2F
 }
 
-// Behind the slash and the asterisk that open a block comment, byte by byte: only ASCII opens or closes. Block comments nest.
+// Behind the slash and the asterisk that open a block comment, byte by byte: only ASCII opens or closes, and what does so is two bytes
+// wide. Block comments nest.
 fn block_comment(text: &[u8], from: Cursor) -> Block
     requires { from.at ≤ length text.now }
     ensures { Parted (block 1) text.now from.at result.closed result.cursor.at }

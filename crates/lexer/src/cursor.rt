@@ -82,7 +82,7 @@ impl Cursor {
         }
     }
 
-    // Past the characters that pass a test: ASCII byte by byte, the others decoded.
+    // Past the characters that pass a test: ASCII byte by byte, the others decoded. The place moves by a character's width.
     fn eat_while<P: Fn(u32) -> bool>(self, text: &[u8], test: P) -> Cursor
         requires place { self.at ≤ length text.now }
         requires callable { P.IsAlwaysCallable test }

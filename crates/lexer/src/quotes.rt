@@ -105,7 +105,7 @@ fn is_escape(text: &[u8], at: usize) -> bool
     byte(text, at) == 0x5C && matches!(byte(text, at + 1), 0x5C | 0x22)
 }
 
-// Behind a double quote, byte by byte: only ASCII ends it or is a bit.
+// Behind a double quote, byte by byte: only ASCII ends it or is a bit. An escape moves the place by two bytes.
 pub fn double_quoted_string(text: &[u8], from: Cursor) -> Quote
     requires { from.at ≤ length text.now }
     ensures { Quoted text.now from.at result.closed (kind_number result.kind) result.cursor.at }

@@ -96,7 +96,7 @@ pub fn token_at(text: &[u8], at: usize, profile: u32, letters: &Letters<'_>) -> 
     advance_token(text, at, profile, letters)
 }
 
-// How many tokens a text has, by runs of 64.
+// How many tokens a text has, by runs of 64: the place moves by a run.
 fn count(text: &[u8], profile: u32, letters: &Letters<'_>) -> usize
     requires { length text.now ≤ longest }
     ensures { result ≡ length (tokens_by (letters_in letters.now) profile text.now) }

@@ -93,7 +93,7 @@ pub fn byte_from_char(c: u32) -> u8
     (c % 256) as u8
 }
 
-// Of a number that is no mode this test and the next three say no.
+// By a number, one by one, as the promises for C have them. Of a number that is no mode this test and the next three say no.
 pub fn is_single(mode: u32) -> bool
     ensures { result ≡ is_single mode }
 {

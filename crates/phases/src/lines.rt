@@ -53,6 +53,7 @@ pub fn space_acts(x: u32) -> Act
     Act::halt(Kind::Whitespace)
 }
 
+// This test and the next are each the code of a definition, `opens` and `closes`, as in the lexer.
 fn is_open(x: u32, y: u32) -> bool
     ensures { result ≡ opens x y }
 {

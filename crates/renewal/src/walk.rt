@@ -13,7 +13,7 @@ use lexer::Letters;
 use listing::cut_run;
 use text::Refusal;
 
-// Sizes the key by runs of 64 tokens, and writes it where `write` says so: one walk, so one loop and one law for both. The flag stands beside the
+// Sizes the key by runs of 64 tokens, and writes it where `write` says so: one walk, so one loop and one law for both. The place moves by a run. The flag stands beside the
 // key, since an `Option` around it would have to be opened and lent on at every token.
 fn walk(text: &[u8], profile: u32, write: bool, key: &mut [u8], letters: &Letters<'_>) -> usize
     requires short { length text.now ≤ longest }

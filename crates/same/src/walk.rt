@@ -81,7 +81,7 @@ fn are_alike(old: &[u8], new: &[u8], p: Found, q: Found) -> bool
         && old[p.start..p.end] == new[q.start..q.end]
 }
 
-// Walks both texts until a counted token of one differs from that of the other, or both have no more.
+// Walks both texts until a counted token of one differs from that of the other, or both have no more: the places move by a token.
 pub fn part(old: &[u8], new: &[u8], profile: u32, letters: &Letters<'_>) -> Comparison
     requires { (length old.now ≤ longest) × (length new.now ≤ longest) }
     ensures { told result ≡ parted_by (tokens_by (letters_in letters.now) profile) old.now new.now }

@@ -36,7 +36,7 @@ fn last_of(table: &[u32], c: u32, p: Part) -> usize
     p.base
 }
 
-// The search among so many ranges, from the first on. It is in line, as `search` is, so that it is compiled for each number of ranges that is known.
+// The search among so many ranges, from the first on: it halves them, and so counts no index. It is in line, as `search` is, so that it is compiled for each number of ranges that is known.
 #[inline(always)]
 #[tactic(auto, using(crate::proofs::Search::searches))]
 fn search_first(table: &[u32], c: u32, n: usize) -> bool
