@@ -28,7 +28,8 @@ use packed::Machine;
 use passes::{Went, pass};
 use pend::Pend;
 pub use question::{Place, text, text_number, text_place};
-pub use refusals::{FeedRefusal, NOT_OPEN};
+use refusals::FeedRefusal;
+pub use refusals::NOT_OPEN;
 use state::{Point, Rules, State};
 use text::{Answer, Refusal};
 
