@@ -11,7 +11,7 @@ use lib.ListN.{length}
 use borrow.Author.Tests.{lt-ltb, le-ltb, ne_eqb}
 use Rattle.lists.proofs.Bools.{by_test}
 use Rattle.characters.specs.Direction.{unmarked_up_to}
-use Rattle.text.specs.Answer.{Answered, done, unknown_selector, too_long, direction_mark, known_profile, check_profile, CutMarked}
+use Rattle.text.specs.Answer.{done, unknown_selector, too_long, direction_mark, known_profile, check_profile, CutMarked}
 use Rattle.text.specs.declared.Refusal.{Refusal}
 use Rattle.text.specs.Refusals.{refused}
 use Rattle.text.proofs.Checks.{answered_unique, never_done}

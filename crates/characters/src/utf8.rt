@@ -38,7 +38,7 @@ fn byte(text: &[u8], i: usize) -> u8
     text.get(i).copied().unwrap_or(0)
 }
 
-// Whether b may stand second, behind the first byte a: by two bounds. Measured: with a range for each of the four first bytes, a block takes 5 to 7
+// Whether b may stand second, behind the first byte a: by two bounds. Measured: with a range for each of the four first bytes, a block takes 4 to 5
 // per cent more instructions.
 #[tactic(auto, unfolding(crate::specs::Steps::low, crate::specs::Steps::high))]
 fn is_second(a: u8, b: u8) -> bool
@@ -247,7 +247,7 @@ fn stands(text: &[u8], at: usize) -> u8
     })
 }
 
-// How many of 32 bytes whole characters take, by the last three. Measured: as one chain of else, a block takes 2 per cent more instructions.
+// How many of 32 bytes whole characters take, by the last three. Measured: as one chain of else, a block takes up to 2 per cent more instructions.
 #[tactic(auto, unfolding(crate::specs::Steps::whole))]
 fn whole_of(b: u8, c: u8, d: u8) -> usize
     ensures { (result ≡ whole b c d) × (1 ≤ result) × (result ≤ 32) }

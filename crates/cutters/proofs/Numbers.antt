@@ -2,7 +2,6 @@
 -- Assumes nothing.
 use Rattle.std.specs.Prelude.{◌≡◌, refl, true, false, cond, List, [], ◌∷◌, ℕ, eqb}
 use mathlib.Core.Path.{sym, ap, ◌∙◌}
-use Rattle.cutters.specs.declared.kinds.Base.{Base}
 use Rattle.cutters.specs.declared.kinds.Base.TheVariants.{Binary, Octal, Decimal, Hexadecimal}
 use Rattle.cutters.specs.declared.kinds.Kind.{Kind}
 use Rattle.cutters.specs.declared.kinds.Kind.TheVariants as kind

@@ -18,7 +18,7 @@ use Rattle.cutters.specs.Digits.{is_digit}
 use Rattle.lexer.specs.Cut.{Letters, Piece, slash, number, number_suffix, identifier, quoted, quote_kind, word, pound, annotated, hardware, wide_emoji, goes_on, advance, advance_token}
 use Rattle.lexer.specs.Unicode.{start_in, more_in, emoji_in, lent}
 use Rattle.lexer.proofs.Places.{advanced, none_at_end}
-use Rattle.lexer.specs.Steps.{Parted, Quoted, Numbered, Wired, Stands, Lettered, NumberAt, StringAt, LiteralAt, Plainly, Cuts}
+use Rattle.lexer.specs.Steps.{Parted, Numbered, Wired, Stands, Lettered, NumberAt, StringAt, Plainly, Cuts}
 use Rattle.lexer.proofs.Dispatch.{Late, digit_early, late_beyond}
 use Rattle.cutters.specs.Underscores.{misplaced_of}
 use Rattle.lexer.proofs.Found.{Unread, unread, slash_unread, pound_unread, annotated_unread, word_unread, quote_unread, number_found, wire_found}
@@ -138,23 +138,8 @@ module _ (start more emoji : List ℕ) (profile : ℕ) {s : List ℕ} {at c next
 pub told : {u : Letters} {profile : ℕ} {s : List ℕ} {at kind found end kind' suffixAt' found' end' : ℕ} → Plainly at kind found end kind' suffixAt' found' end' → Cuts u profile s at kind at (found - at) end → Cuts u profile s at kind' suffixAt' found' end'
 told p q = rw (p.kind_is, p.suffix_is, p.found_is, p.end_is) q
 
--- ---- literals behind their first character
-module _ (start more : ℕ → Bool) {s : List ℕ} {at kind suffixAt found : ℕ} where
-  pub string_closed : {b : Bool} {end : ℕ} → Quoted s at b kind suffixAt → b ≡ true → Place s suffixAt end (identifier start more (left s suffixAt)) → found ≡ 0 → StringAt start more s at kind suffixAt found end
-  string_closed q t p z = record { what = q.what; none = z; begin = q.place; place = rw (sym q.flag ∙ t) p }
+-- ---- a number behind its first digit
+pub number_at : (start more : ℕ → Bool) {s : List ℕ} {own at c n kind suffixAt found end : ℕ} → Numbered c s at kind n suffixAt → found ≡ n - own → Place s suffixAt end (number_suffix start more (left s suffixAt)) → NumberAt start more c s own at kind suffixAt found end
+number_at start more {own = own} m f p = record { what = m.part; first = λ e. f ∙ m.first own e; place = p }
 
-  pub string_open : {b : Bool} → Quoted s at b kind suffixAt → b ≡ false → found ≡ 0 → StringAt start more s at kind suffixAt found suffixAt
-  string_open q t z =
-      record { what = q.what; none = z; begin = q.place; place = rw (sym q.flag ∙ t) (record { after = omega arith; within = q.place.within; there = refl }) }
-
-  pub number_at : {own c n end : ℕ} → Numbered c s at kind n suffixAt → found ≡ n - own → Place s suffixAt end (number_suffix start more (left s suffixAt)) → NumberAt start more c s own at kind suffixAt found end
-  number_at {own} m f p = record { what = m.part; first = λ e. f ∙ m.first own e; place = p }
-
-  module _ {own c end : ℕ} where
-    pub literal_string : c ≡ 0x22 → StringAt start more s at kind suffixAt found end → LiteralAt start more c s own at kind suffixAt found end
-    literal_string e p = record { string = λ h. p; number = λ n. absurd (n e) }
-
-    pub literal_number : (c ≡ 0x22 → ⊥) → NumberAt start more c s own at kind suffixAt found end → LiteralAt start more c s own at kind suffixAt found end
-    literal_number n p = record { string = λ e. absurd (n e); number = λ h. p }
-
-pub ruleset advancing = (stands, in_front, cut_slash, cut_space, cut_word, cut_pound, cut_annotated, cut_hardware, string_closed, string_open, number_at, literal_string, literal_number, cut_emoji, cut_unknown, late_beyond, told, advanced, none_at_end)
+pub ruleset advancing = (stands, in_front, cut_slash, cut_space, cut_word, cut_pound, cut_annotated, cut_hardware, cut_emoji, cut_unknown, late_beyond, told, advanced, none_at_end)

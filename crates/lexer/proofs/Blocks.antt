@@ -213,4 +213,3 @@ module _ {s : List ℕ} {at x : ℕ} (f : x ≡ peek (left s at)) where
       let h : eqb (peek (left s at)) 0x2F ≡ false = ne_eqb _ _ (λ z. n (f ∙ z)) in
       let j : eqb (peek (left s at)) 0x2A ≡ false = ne_eqb _ _ (λ z. m (f ∙ z)) in
       record { what = rw (h, j) k; place = record { after = omega arith; within = w; there = rw (h, j) } }
-

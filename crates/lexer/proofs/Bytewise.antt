@@ -5,12 +5,12 @@ use native.Mathlib.Decide.{dec_lt}
 use native.Mathlib.Numerals.{add-one, add-two, one-add}
 use native.Mathlib.Omega.{arith}
 use mathlib.Core.Path.{◌≡◌, refl, ap, sym, ◌∙◌}
-use mathlib.Core.Bool.{Bool, true, false, not, cond, ◌&&◌, ◌||◌, false≢true}
+use mathlib.Core.Bool.{Bool, true, false, not, cond, ◌||◌, false≢true}
 use mathlib.Core.List.{List, [], ◌∷◌, tail}
 use lib.ListN.{length, drop, get_or, get_or-eq_default, length-drop}
 use lib.Seq.{drop-drop}
 use lib.Dec.{eqb, leb, ltb}
-use borrow.Author.Tests.{eq-eqb, ne_eqb, ltb-false, leb-false, lt-leb}
+use borrow.Author.Tests.{ne_eqb, ltb-false, leb-false, lt-leb}
 use Rattle.std.proofs.Common.{get_or-drop}
 use Rattle.std.specs.Prelude.{Option, Some, None, unwrap_or}
 use Rattle.std.specs.List.{prefix_len, position_or_len}
@@ -122,19 +122,3 @@ tail_drop n s = rw (add-one, add-two) (steps n s)
 pub stands : (n : ℕ) (s : List ℕ) → 1 ≤ get_or s n 0 → n < length s
 stands n s h =
     elim (dec_lt n (length s)) [ yes l ↦ l | no m ↦ absurd (omega (arith, get_or-eq_default s 0 {n = n} (omega arith))) ]
-
--- ---- two bytes that are tested one after the other
-pub then_is : (g h m : ℕ) {v w k : ℕ} {r : Bool} → v ≡ g → v ≡ k → w ≡ h → r ≡ eqb w m → r ≡ (eqb g k && eqb h m)
-then_is g h m {v} {w} {k} e i f q = q ∙ rw (← e, eq-eqb v k i, f)
-
-pub first_not : (g : ℕ) (q : Bool) {v k : ℕ} → v ≡ g → (v ≡ k → ⊥) → false ≡ (eqb g k && q)
-first_not g q {v} {k} e n = rw (← e, ne_eqb v k n)
-
--- or one of two
-pub then_either : (g h m n : ℕ) {v w k : ℕ} {r : Bool} → v ≡ g → v ≡ k → w ≡ h → (w ≡ m → ⊥) → r ≡ eqb w n → r ≡ (eqb g k && (eqb h m || eqb h n))
-then_either g h m n {v} {w} {k} e i f x q = q ∙ rw (← e, eq-eqb v k i, ← f, ne_eqb w m x)
-
-pub then_one : (g h m : ℕ) (q : Bool) {v w k : ℕ} → v ≡ g → v ≡ k → w ≡ h → w ≡ m → true ≡ (eqb g k && (eqb h m || q))
-then_one g h m q {v} {w} {k} e i f x = rw (← e, eq-eqb v k i, ← f, eq-eqb w m x)
-
-pub ruleset tested = (then_is, then_either, then_one, first_not)

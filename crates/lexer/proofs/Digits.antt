@@ -1,6 +1,6 @@
 -- Numbers and their suffixes, as `search` takes the laws.
 -- Assumes nothing.
-use Prim.Native.Nat.{ℕ, ◌+◌, ◌*◌, ◌≤◌, ◌<◌}
+use Prim.Native.Nat.{ℕ, ◌≤◌, ◌<◌}
 use native.Mathlib.Decide.{dec_lt}
 use native.Mathlib.Omega.{arith}
 use mathlib.Core.Path.{◌≡◌, refl, ap, sym, ◌∙◌}
@@ -253,7 +253,4 @@ module _ (start more s : List ℕ) (at : ℕ) {b : Bool} (o : b ≡ is_unit (pee
   unfolding number_suffix
   suffix_eaten t p = rw (sym o ∙ t) p
 
-pub unit_at : {s : List ℕ} {at a x y : ℕ} {r : Bool} → x ≡ peek (left s at) → Place s at a (tail (left s at)) → y ≡ peek (left s a) → r ≡ is_unit x y → r ≡ is_unit (peek (left s at)) (peek (tail (left s at)))
-unit_at f p g e = rw (f, g, p.there) at e
-
-pub ruleset suffixes = (number_binary, number_octal, number_hex, number_zero, number_other, identifier_none, identifier_eaten, suffix_unit, suffix_eaten, unit_at)
+pub ruleset suffixes = (identifier_none, identifier_eaten)

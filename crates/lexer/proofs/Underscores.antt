@@ -3,9 +3,8 @@
 use Rattle.std.specs.Prelude.{Option, Some, None}
 use Rattle.std.specs.Option.{option_or}
 use Rattle.std.specs.declared.num.NonZeroUsize.{NonZeroUsize}
-use Prim.Native.Nat.{ℕ, zero, suc, ◌+◌, ◌-◌, ◌≤◌, ◌<◌}
+use Prim.Native.Nat.{ℕ, suc, ◌+◌, ◌-◌, ◌≤◌, ◌<◌}
 use native.Mathlib.Decide.{dec_lt}
-use native.Mathlib.Numerals.{add-one}
 use native.Mathlib.Omega.{arith}
 use mathlib.Core.Path.{◌≡◌, refl, ap, sym, ◌∙◌}
 use mathlib.Core.Bool.{Bool, true, false, not, cond, ◌&&◌, ◌||◌, false≢true}
@@ -19,7 +18,7 @@ use Rattle.characters.specs.Text.{byte_length, left}
 use Rattle.characters.proofs.Text.{decoded_point, bytes_chars}
 use Rattle.characters.proofs.Ascii.{Going, going_none, going_on, going_halt, going_end, ascii_decoded}
 use Rattle.cutters.specs.Digits.{peek, is_digit, is_hex_digit, digit_by}
-use Rattle.cutters.specs.Underscores.{before, misplaced, misplaced_in}
+use Rattle.cutters.specs.Underscores.{misplaced, misplaced_in}
 use Rattle.cutters.specs.Steps.{first_of}
 use Rattle.cutters.proofs.Underscores.{Stays, in_other, in_join}
 use Rattle.lexer.specs.Cut.{is_e, or_underscore, met}
@@ -64,45 +63,6 @@ unfolding misplaced_in
 misplaced_none {hex} {s} {at} {x} =
     let e : at - at ≡ 0 = omega arith in
     record { after = omega arith; first = λ l. rw (e, first_none x) }
-
--- ---- what is found at one underscore
-module _ {found : ℕ} (next : ℕ) where
-  pub first_zero : found ≡ 0 → next ≡ first_of found next
-  first_zero e = rw e
-
-  pub first_some : (found ≡ 0 → ⊥) → found ≡ first_of found next
-  first_some n = rw (ne_eqb found 0 n)
-
-module _ (s : List ℕ) where
-  pub before_none : {at : ℕ} → at ≡ 0 → 0 ≡ before s at
-  before_none e = rw e
-
-  pub before_some : {b : ℕ} (at : ℕ) → (at ≡ 0 → ⊥) → b ≡ get_or s (at - 1) 0 → b ≡ before s at
-  before_some zero n e = absurd (n refl)
-  before_some (suc i) n e = let h : suc i - 1 ≡ i = omega arith in e ∙ ap (λ (k : ℕ). get_or s k 0) h
-
-module _ (c : ℕ) {r h : Bool} where
-  pub by_hex : h ≡ true → r ≡ is_hex_digit c → r ≡ digit_by h c
-  by_hex t e = rw t e
-
-  pub by_decimal : h ≡ false → r ≡ is_digit c → r ≡ digit_by h c
-  by_decimal t e = rw t e
-
-module _ (hex : Bool) (s : List ℕ) (at : ℕ) {found a : ℕ} {p : Bool} (u : get_or s at 0 ≡ 0x5F) (z : found ≡ 0) (e : a ≡ before s at) (g : p ≡ digit_by hex a) where
-  pub found_before : p ≡ false → at ≡ first_of found (cond (misplaced (digit_by hex) s at) at 0)
-  found_before t = rw (z, u, ← e, ← g, t)
-
-  module _ {b : ℕ} {q : Bool} (f : b ≡ get_or s (at + 1) 0) (h : q ≡ digit_by hex b) where
-    behind : digit_by hex (get_or s (suc at) 0) ≡ q
-    behind = rw (h, f, add-one)
-
-    pub found_none : p ≡ true → q ≡ true → 0 ≡ first_of found (cond (misplaced (digit_by hex) s at) at 0)
-    found_none t w = rw (z, u, ← e, ← g, t, behind, w)
-
-    pub found_behind : p ≡ true → q ≡ false → at ≡ first_of found (cond (misplaced (digit_by hex) s at) at 0)
-    found_behind t w = rw (z, u, ← e, ← g, t, behind, w)
-
-pub ruleset finding = (first_zero, first_some, before_none, before_some, by_hex, by_decimal, found_before, found_none, found_behind)
 
 -- ---- a digit reader goes on
 pub record Digital (digit : ℕ → Bool) : Type 0 where

@@ -1,10 +1,8 @@
 -- The tokens of a text; and what `advance_token` and `is_ident` answer.
 -- Assumes nothing.
-use Rattle.std.specs.Prelude.{ℕ, ◌+◌, ◌≡◌, Bool, cond, Result, Ok, Err, List, [], ◌∷◌, ltb, drop}
+use Rattle.std.specs.Prelude.{ℕ, ◌+◌, ◌≡◌, Bool, cond, List, [], ◌∷◌, ltb, drop}
 use Rattle.characters.specs.Utf8.{chars}
 use Rattle.text.specs.Answer.{done, check_text, ◌and_then◌}
-use Rattle.text.specs.declared.Refusal.{Refusal}
-use Rattle.text.specs.Refusals.{refused}
 use Rattle.letters.specs.Chars.{is_ident}
 use Rattle.cutters.specs.Kinds.{eof}
 use Rattle.cutters.specs.Records.{Token, misplaced_at}
@@ -42,8 +40,3 @@ pub record Advanced (u : Letters) (profile : ℕ) (s : List ℕ) (at kind suffix
 -- whether a text is an identifier: 1 for yes, 0 for no
 unfoldable pub identified : List ℕ → ℕ × ℕ
 identified s = check_text s and_then (done, cond (is_ident (chars s)) 1 0)
-
--- what a question says that can be refused
-abbrev pub yes_or_no : Result Bool Refusal → ℕ × ℕ
-yes_or_no (Ok b) = (done, cond b 1 0)
-yes_or_no (Err r) = refused r

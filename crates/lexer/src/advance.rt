@@ -72,13 +72,7 @@ fn string(text: &[u8], from: Cursor, letters: &Letters<'_>) -> Piece
 }
 
 // A number, behind its first digit. A unit is a token of its own.
-fn numeral(
-    text: &[u8],
-    at: usize,
-    from: Cursor,
-    first_digit: u32,
-    letters: &Letters<'_>,
-) -> Piece
+fn numeral(text: &[u8], at: usize, from: Cursor, first_digit: u32, letters: &Letters<'_>) -> Piece
     requires { from.at ≤ length text.now }
     ensures { NumberAt (start_in letters.now.start.now) (more_in letters.now.more.now) first_digit text.now at from.at (kind_number result.kind) result.suffix result.misplaced result.end }
 {
@@ -109,14 +103,7 @@ fn literal(text: &[u8], at: usize, from: Cursor, c: u32, letters: &Letters<'_>) 
 
 // A letter of ASCII, an underscore, or a character beyond ASCII, where the tables decide: an identifier, one that begins with an
 // emoji, or an unknown character.
-fn named(
-    text: &[u8],
-    at: usize,
-    c: u32,
-    next: Cursor,
-    profile: u32,
-    letters: &Letters<'_>,
-) -> Piece
+fn named(text: &[u8], at: usize, c: u32, next: Cursor, profile: u32, letters: &Letters<'_>) -> Piece
     requires { (Stands text.now at c next.at) × (Lettered c) }
     ensures { Cuts (letters_in letters.now) profile text.now at (kind_number result.kind) result.suffix result.misplaced result.end }
 {
@@ -187,12 +174,7 @@ fn advance(
 }
 
 // The token at any place, over tables of the letters that are lent; at or past the end there is none.
-pub fn advance_token(
-    text: &[u8],
-    at: usize,
-    profile: u32,
-    letters: &Letters<'_>,
-) -> Piece
+pub fn advance_token(text: &[u8], at: usize, profile: u32, letters: &Letters<'_>) -> Piece
     ensures { Advanced (letters_in letters.now) profile text.now at (kind_number result.kind) result.suffix result.misplaced result.end }
 {
     if text.len() <= at {

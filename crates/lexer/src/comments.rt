@@ -14,7 +14,7 @@ pub struct Part {
     pub cursor: Cursor,
 }
 
-// Whether a block comment is closed, and the cursor behind it, which there is either way.
+// Whether a block comment is closed, and the cursor behind it, which there is either way: no Option.
 #[derive(Clone, Copy)]
 pub struct Block {
     pub closed: bool,

@@ -16,6 +16,7 @@ use characters::utf8::{code, decode};
 use letters::is_whitespace;
 use std::num::NonZeroUsize;
 
+// A place in the text. It does not hold the text: with it the same code takes 6 per cent more instructions on programs, compiled by rustc.
 #[derive(Clone, Copy)]
 pub struct Cursor {
     pub at: usize,
@@ -150,7 +151,7 @@ impl Cursor {
         self.eat_while(text, |c| letters.goes_on(c))
     }
 
-    // Digits, hexadecimal ones or decimal ones, and underscores.
+    // Digits, hexadecimal ones or decimal ones, and underscores. By places: of each underscore the bytes on both sides of it are asked.
     pub fn eat_digits<const HEX: bool>(self, text: &[u8]) -> Digits
         requires { self.at ≤ length text.now }
         ensures { Run (digit_by HEX) HEX text.now self.at result.any (place_of result.misplaced) result.cursor.at }
@@ -191,7 +192,12 @@ pub fn is_digit_by(hex: bool, c: u32) -> bool
 }
 
 // The first misplaced underscore of a run, up to the underscore at a place.
-fn first_misplaced(text: &[u8], at: usize, found: Option<NonZeroUsize>, hex: bool) -> Option<NonZeroUsize>
+fn first_misplaced(
+    text: &[u8],
+    at: usize,
+    found: Option<NonZeroUsize>,
+    hex: bool,
+) -> Option<NonZeroUsize>
     requires { (at < length text.now) × (get_or text.now at 0 ≡ 0x5F) }
     ensures { place_of result ≡ first_of (place_of found) (cond (misplaced (digit_by hex) text.now at) at 0) }
 {

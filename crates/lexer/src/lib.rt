@@ -5,7 +5,8 @@ ghost use Rattle.std.specs.Prelude.{◌≡◌};
 ghost use Rattle.characters.specs.Utf8.{chars};
 ghost use Rattle.letters.specs.Chars.{ident_by};
 ghost use Rattle.lexer.specs.Unicode.{start_in, more_in, unicode, lent};
-ghost use Rattle.lexer.specs.Promises.{identified, yes_or_no};
+ghost use Rattle.text.specs.Refusals.{told};
+ghost use Rattle.lexer.specs.Promises.{identified};
 
 mod advance;
 mod comments;
@@ -43,7 +44,7 @@ fn is_ident_in(text: &[u8], letters: &Letters<'_>) -> bool
 
 // Whether a text is an identifier.
 pub fn is_ident(text: &[u8]) -> Result<bool, Refusal>
-    ensures { yes_or_no result ≡ identified text.now }
+    ensures { told result ≡ identified text.now }
 {
     check_text(text)?;
     Ok(is_ident_in(text, &Letters::unicode()))

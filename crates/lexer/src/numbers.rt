@@ -88,7 +88,9 @@ fn point(text: &[u8], from: Cursor, base: Base, found: Option<NonZeroUsize>) -> 
     }
 }
 
-// Behind the digits of a base: a point, an exponent, or nothing.
+// Behind the digits of a base: a point, an exponent, or nothing. Placed in line, as most numbers end here: a call takes some forty instructions more
+// for each number.
+#[inline(always)]
 fn fraction(text: &[u8], from: Cursor, base: Base, found: Option<NonZeroUsize>) -> Figures
     requires { from.at ≤ length text.now }
     ensures { Read (fraction (base_number base)) text.now from.at (place_of found) (kind_number result.kind) (place_of result.misplaced) result.cursor.at }
@@ -111,6 +113,7 @@ fn fraction(text: &[u8], from: Cursor, base: Base, found: Option<NonZeroUsize>) 
 }
 
 // Behind 0b, 0o or 0x and what digits there are.
+#[inline(always)]
 fn based(text: &[u8], d: Digits, base: Base) -> Figures
     requires { d.cursor.at ≤ length text.now }
     ensures { Read (based (base_number base) d.any) text.now d.cursor.at (place_of d.misplaced) (kind_number result.kind) (place_of result.misplaced) result.cursor.at }
@@ -135,9 +138,17 @@ pub fn number(text: &[u8], from: Cursor, first_digit: u32) -> Figures
 {
     if first_digit == 0x30 {
         match from.first(text) {
-            0x62 => return based(text, from.bump(text).eat_digits::<false>(text), Base::Binary),
+            0x62 => return based(
+                text,
+                from.bump(text).eat_digits::<false>(text),
+                Base::Binary,
+            ),
             0x6F => return based(text, from.bump(text).eat_digits::<false>(text), Base::Octal),
-            0x78 => return based(text, from.bump(text).eat_digits::<true>(text), Base::Hexadecimal),
+            0x78 => return based(
+                text,
+                from.bump(text).eat_digits::<true>(text),
+                Base::Hexadecimal,
+            ),
             _ => {}
         }
     }

@@ -47,7 +47,7 @@ impl Lines {
 }
 
 impl Body {
-    // One character more.
+    // One character more. In a match the compiler tests for the two digits with no jump, and takes a quarter more instructions for a quoted text.
     fn add(self, c: u32) -> Body
         ensures { Added c self.plain (lines_number self.lines) self.twice self.prev result.plain (lines_number result.lines) result.twice result.prev }
     {
@@ -76,11 +76,12 @@ impl Body {
     fn is_bits(self, closed: bool) -> bool
         ensures { result ≡ bits_by closed self.plain (lines_number self.lines) self.prev }
     {
-        self.plain && match self.lines {
-            Lines::Zero => true,
-            Lines::One => !closed && self.prev == 0x0A,
-            Lines::Many => false,
-        }
+        self.plain
+            && match self.lines {
+                Lines::Zero => true,
+                Lines::One => !closed && self.prev == 0x0A,
+                Lines::Many => false,
+            }
     }
 
     fn kind(self, closed: bool) -> Kind

@@ -127,7 +127,11 @@ pub fn hardware_ident(text: &[u8], from: Cursor, letters: &Letters<'_>) -> Figur
     }
     let d = from.eat_digits::<false>(text);
     Figures {
-        kind: if d.any { Kind::HardwareIdent } else { Kind::Dollar },
+        kind: if d.any {
+            Kind::HardwareIdent
+        } else {
+            Kind::Dollar
+        },
         misplaced: d.misplaced,
         cursor: d.cursor,
     }

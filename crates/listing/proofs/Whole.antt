@@ -15,7 +15,7 @@ use Rattle.lists.proofs.Put.{sets_append}
 use Rattle.lists.proofs.Store.{stored_front}
 use Rattle.characters.proofs.Text.{point_at}
 use Rattle.characters.specs.Direction.{unmarked_up_to}
-use Rattle.text.specs.Answer.{Answered, done, direction_mark, longest, check_cut, CutMarked}
+use Rattle.text.specs.Answer.{done, direction_mark, longest, check_cut, CutMarked}
 use Rattle.text.specs.Steps.{Entered}
 use Rattle.text.proofs.Room as room
 use Rattle.text.specs.declared.Refusal.{Refusal}
@@ -28,14 +28,11 @@ use Rattle.cutters.specs.Underscores.{misplaced_in, misplaced_of}
 use Rattle.cutters.proofs.Underscores.{word_most}
 use Rattle.cutters.proofs.Records.{length_words, length_flat}
 use Rattle.lexer.specs.Cut.{Letters}
-use Rattle.lexer.specs.Unicode.{unicode, lent}
+use Rattle.lexer.specs.Unicode.{unicode}
 use Rattle.listing.specs.Steps.{Filled, StoredTokens, run_from}
 use Rattle.lexer.specs.Promises.{tokens3, tokens_of, front, tokens_by, Advanced}
 use Rattle.listing.specs.Promises.{answer_of, listed, Listed, run, CutRun, token_at, TokenAt}
 use Rattle.lexer.proofs.Places.{few_tokens, tokens_some, tokens_first, next_within, none_left, advanced_view, end_some, known3}
-use Rattle.lexer.proofs.Unicode.{lent_is}
-use Rattle.characters.specs.Ranges.{flat}
-use Rattle.ucd.specs.Ucd.{xid_start, xid_continue, emoji}
 
 -- ---- a run of tokens: to go on from here comes to the same
 pub record Filling (u : Letters) (profile : ℕ) (s : List ℕ) (from : ℕ) (list₀ : List ℕ) (full at k : ℕ) (list : List ℕ) : Type 0 where
@@ -268,6 +265,27 @@ module _ (u : Letters) (profile : ℕ) (s : List ℕ) (at : ℕ) where
         found_is = a.found_is ∙ ap (misplaced_at s at) e;
         end_is = a.end_is ∙ ap (λ (t : Token). at + t.len) e;
       }
+
+-- ---- as the words of a run tell it
+-- a record of noughts, and the words of at most one token before it
+abbrev none : List ℕ
+none = 0 ∷ 0 ∷ 0 ∷ 0 ∷ 0 ∷ []
+
+one_words : (s : List ℕ) (at : ℕ) (l : List Token) → length l ≤ 1 → {list : List ℕ} → list ≡ flat_from s at l ++ drop (length (flat_from s at l)) none → (get_or list 0 0 ≡ (front l).kind) × (get_or list 2 0 ≡ (front l).suffix) × (get_or list 4 0 ≡ misplaced_at s at (front l)) × (total l ≡ (front l).len)
+unfolding flat_from front misplaced_of misplaced_in
+one_words s at [] h e = (ap (λ (l : List ℕ). get_or l 0 0) e, ap (λ (l : List ℕ). get_or l 2 0) e, ap (λ (l : List ℕ). get_or l 4 0) e, refl)
+one_words s at (t ∷ []) h e = (ap (λ (l : List ℕ). get_or l 0 0) e, ap (λ (l : List ℕ). get_or l 2 0) e, ap (λ (l : List ℕ). get_or l 4 0) e, omega arith)
+one_words s at (t ∷ t' ∷ ts) h e = absurd (omega arith)
+
+one_few : (u : Letters) (profile : ℕ) (s : List ℕ) (at : ℕ) → length (run u profile s at 1) ≤ 1
+unfolding run
+one_few u profile s at =
+    by_test (ltb longest (length s)) (λ t. rw t (omega arith)) (λ t. rw t (omega (arith, length-take 1 (tokens_by u profile (drop at s)))))
+
+pub run_token : {u : Letters} {profile : ℕ} {s list' : List ℕ} {at end count : ℕ} → CutRun u profile s at none end count list' → TokenAt u profile s at (get_or list' 0 0) (at + get_or list' 2 0) (get_or list' 4 0) end
+run_token {u} {profile} {s} {at = at} r =
+    let w = one_words s at (run u profile s at 1) (one_few u profile s at) r.words in
+    record { kind_is = w.0; suffix_is = ap (λ (n : ℕ). at + n) w.1; found_is = w.2; end_is = r.reached ∙ ap (λ (n : ℕ). at + n) w.3 }
 
 -- a place of the token is at or behind its start, and within the text
 module _ {u : Letters} {profile : ℕ} {s : List ℕ} {at kind suffixAt found end : ℕ} (a : TokenAt u profile s at kind suffixAt found end) where

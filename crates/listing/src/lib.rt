@@ -80,7 +80,8 @@ pub fn cut_run(
     fill(text, from, profile, list, letters)
 }
 
-// The token at a place; where `cut_run` gives none, no kind and no length.
+// The token at a place; where `cut_run` gives none, Eof and no length. It asks the cutter itself: linked beside the lists it is a second caller,
+// and the cutter is then compiled into neither, which costs `tokenize` up to 60 per cent on programs. So this project's crates take runs of one.
 pub fn token_at(text: &[u8], at: usize, profile: u32, letters: &Letters<'_>) -> Piece
     ensures { TokenAt (letters_in letters.now) profile text.now at (kind_number result.kind) result.suffix result.misplaced result.end }
 {

@@ -1,12 +1,13 @@
 -- A number stands for one mode alone, and for one error: so the promises that speak of `mode_number` and `error_number` leave one.
 -- Assumes nothing.
-use Rattle.std.specs.Prelude.{◌≡◌, refl, cond, List, [], ◌∷◌, ℕ, eqb}
+use Rattle.std.specs.Prelude.{◌≡◌, refl, Result, Ok, Err, cond, List, [], ◌∷◌, ℕ, eqb}
 use mathlib.Core.Path.{sym, ap, ◌∙◌}
 use Rattle.modes.specs.declared.Mode.{Mode}
 use Rattle.modes.specs.declared.Mode.TheVariants as mode
 use Rattle.modes.specs.declared.errors.EscapeError.{EscapeError}
 use Rattle.modes.specs.declared.errors.EscapeError.TheVariants as error
-use Rattle.modes.specs.Numbers.{mode_number, error_number}
+use Rattle.modes.specs.Errors.{Outcome, char, error as error_outcome}
+use Rattle.modes.specs.Numbers.{mode_number, error_number, outcome_of}
 
 -- the first of some values with this number, or x
 abbrev found : {A : Type 0} → (A → ℕ) → A → List A → ℕ → A
@@ -65,3 +66,16 @@ error_back error.MultipleSkippedLinesWarning = refl
 
 pub error_one : (x y : EscapeError) → error_number x ≡ error_number y → x ≡ y
 error_one x y e = sym (error_back x) ∙ ap error_at e ∙ error_back y
+
+-- ---- and an outcome is of one reading alone
+read_at : Outcome → Result ℕ EscapeError
+read_at (char c) = Ok c
+read_at (error_outcome n) = Err (error_at n)
+
+read_back : (r : Result ℕ EscapeError) → read_at (outcome_of r) ≡ r
+unfolding read_at
+read_back (Ok c) = refl
+read_back (Err e) = ap Err (error_back e)
+
+pub outcome_one : (r q : Result ℕ EscapeError) → outcome_of r ≡ outcome_of q → r ≡ q
+outcome_one r q e = sym (read_back r) ∙ ap read_at e ∙ read_back q

@@ -1,11 +1,11 @@
 -- The laws of text records: one record, then the rest; how many bytes they are; and that a text can be read back where its length is known.
 -- Assumes nothing.
-use Prim.Native.Nat.{ℕ, zero, suc, ◌+◌, ◌/◌, ◌-◌, ◌≤◌, ◌<◌, min}
+use Prim.Native.Nat.{ℕ, zero, suc, ◌+◌, ◌/◌, ◌≤◌, min}
 use native.Mathlib.Decide.{dec_lt}
 use native.Mathlib.Omega.{arith}
 use mathlib.Core.Path.{◌≡◌, refl, ap, sym, ◌∙◌}
 use mathlib.Core.List.{List, [], ◌∷◌, ◌++◌, append_assoc, flatten}
-use lib.Seq.{take_all, drop-drop}
+use lib.Seq.{take_all}
 use lib.ListN.{length, take, drop, length-append, length-take, length-drop, take-append-drop, drop_of_length-le}
 use Rattle.lists.proofs.Cut.{cut_nil, cut_cons, by_length}
 use Rattle.renewal.specs.Key.{text_record, next_text, texts}

@@ -10,7 +10,7 @@ use lib.ListN.{length, take, drop}
 use lib.Seq.{take-append_seam}
 use borrow.Author.Tests.{eq-eqb}
 use Rattle.characters.specs.Direction.{unmarked_up_to}
-use Rattle.text.specs.Answer.{Answered, done, room_too_small, direction_mark, check_cut, CutMarked}
+use Rattle.text.specs.Answer.{done, room_too_small, direction_mark, check_cut, CutMarked}
 use Rattle.text.specs.Steps.{Entered}
 use Rattle.text.specs.declared.Refusal.{Refusal}
 use Rattle.text.specs.Refusals.{refused}

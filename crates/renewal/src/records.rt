@@ -1,4 +1,5 @@
-// The records of the key, written into lent bytes.
+// The records of the key, written into lent bytes. Each function is lent the key and a place in it, and answers the place behind what it wrote: a
+// struct that holds both would have to be lent and told in the same clauses.
 ghost use Rattle.std.specs.Prelude.{◌≡◌, [], ◌∷◌, ◌++◌, ◌+◌, ◌*◌, ◌≤◌, length, take, drop};
 ghost use Rattle.lists.specs.Steps.{Put, PutIf};
 ghost use Rattle.text.specs.Answer.{longest};
@@ -139,14 +140,7 @@ fn record_size(body: u8, len: usize) -> usize
 }
 
 // Counts the bytes of a token in the key from place k on, and writes them where `write` says so.
-fn put_member(
-    key: &mut [u8],
-    write: bool,
-    k: usize,
-    kind: u32,
-    suffix: u32,
-    text: &[u8],
-) -> usize
+fn put_member(key: &mut [u8], write: bool, k: usize, kind: u32, suffix: u32, text: &[u8]) -> usize
     requires { Ready bodies write k kind suffix text.now key.old }
     ensures { PutIf write key.old k (entry (member kind suffix text.now)) key.new result }
 {

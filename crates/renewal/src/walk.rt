@@ -13,7 +13,8 @@ use lexer::Letters;
 use listing::cut_run;
 use text::Refusal;
 
-// Sizes the key by runs of 64 tokens, and writes it where `write` says so.
+// Sizes the key by runs of 64 tokens, and writes it where `write` says so: one walk, so one loop and one law for both. The flag stands beside the
+// key, since an `Option` around it would have to be opened and lent on at every token.
 fn walk(text: &[u8], profile: u32, write: bool, key: &mut [u8], letters: &Letters<'_>) -> usize
     requires short { length text.now ≤ longest }
     requires room { write ≡ true → length (key_by (tokens_by (letters_in letters.now) profile) text.now) ≤ length key.old }

@@ -1,6 +1,6 @@
 -- The answer and the row of a whole call.
 -- Assumes nothing.
-use Prim.Native.Nat.{ℕ, ◌-◌, ◌*◌, ◌/◌, ◌≤◌, ◌<◌}
+use Prim.Native.Nat.{ℕ, ◌*◌, ◌/◌, ◌≤◌, ◌<◌}
 use native.Mathlib.Omega.{arith}
 use mathlib.Core.Path.{◌≡◌, refl, ap, sym, ◌∙◌, subst}
 use mathlib.Core.Bool.{true, false}
@@ -11,14 +11,13 @@ use borrow.Author.Tests.{lt-ltb, le-ltb, eqb-true, eqb-false, eq-eqb, ne_eqb}
 use Rattle.lists.proofs.Bools.{by_test}
 use Rattle.characters.specs.Direction.{unmarked_up_to}
 use Rattle.characters.proofs.Text.{point_at}
-use Rattle.text.specs.Answer.{Answered, done, room_too_small, direction_mark, longest, check_cut, CutMarked, ◌and_then◌}
+use Rattle.text.specs.Answer.{done, room_too_small, direction_mark, longest, check_cut, CutMarked, ◌and_then◌}
 use Rattle.text.specs.declared.Refusal.{Refusal}
 use Rattle.text.specs.declared.Refusal.TheVariants.{UnknownSelector, TooLong, NotUtf8, RoomTooSmall, DirectionMark}
 use Rattle.text.specs.Refusals.{refused}
 use Rattle.text.proofs.Checks.{cut_accepted, never_room, never_done}
 use Rattle.text.proofs.Room.{was_done}
 use Rattle.text.proofs.Marks.{marked_refused}
-use Rattle.cutters.specs.Records as definitions
 use Rattle.cutters.specs.Records.{record_words, flat_from}
 use Rattle.lexer.specs.Cut.{Letters}
 use Rattle.lexer.specs.Unicode.{unicode}

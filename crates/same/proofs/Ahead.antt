@@ -1,9 +1,10 @@
 -- The first counted token from a place on: the walk that looks for it.
 -- Assumes nothing.
 use Prim.Native.Nat.{ℕ, ◌+◌, ◌-◌, ◌≤◌, ◌<◌}
+use native.Mathlib.Decide.{dec_lt}
 use native.Mathlib.Omega.{arith}
 use mathlib.Core.Path.{◌≡◌, refl, ap, sym, ◌∙◌}
-use mathlib.Core.Bool.{Bool, true, false}
+use mathlib.Core.Bool.{Bool, true, false, false≢true}
 use mathlib.Core.List.{List, [], ◌∷◌}
 use lib.ListN.{length, drop, length-drop, drop_of_length-le}
 use lib.Seq.{drop-drop}
@@ -13,8 +14,9 @@ use Rattle.cutters.specs.Kinds.{eof}
 use Rattle.cutters.specs.Records.{Token}
 use Rattle.lexer.specs.Cut.{Letters}
 use Rattle.lexer.specs.Promises.{front, tokens_by}
-use Rattle.listing.specs.Promises.{run, TokenAt}
-use Rattle.listing.proofs.Whole.{one_start, one_end}
+use Rattle.lexer.proofs.Places.{none_left}
+use Rattle.listing.specs.Promises.{run, token_at, TokenAt}
+use Rattle.listing.proofs.Whole.{one_start, one_end, first_of as first_one}
 use Rattle.tokens.specs.Members.{is_counted, member_of, counted, members_by}
 use Rattle.renewal.specs.Rules.{Keyable}
 use Rattle.renewal.proofs.Runs.{First, none_of, first_of}
@@ -108,7 +110,7 @@ pub seeking_none : (cut : List ℕ → List Token) (s : List ℕ) (from : ℕ) �
 seeking_none cut s from h = record { after = omega arith; within = h; members = refl; seen = refl }
 
 module _ {u : Letters} {profile : ℕ} {s : List ℕ} {from at kind suffixAt found end : ℕ} (w : Seeking (tokens_by u profile) s from at) (short : length s ≤ longest) (h : at < length s) (a : TokenAt u profile s at kind suffixAt found end) where
-  pub seeking_found : {b : Bool} → b ≡ is_counted kind → b ≡ true → Ahead (tokens_by u profile) s from kind at suffixAt end
+  seeking_found : {b : Bool} → b ≡ is_counted kind → b ≡ true → Ahead (tokens_by u profile) s from kind at suffixAt end
   seeking_found b e =
       let c : is_counted kind ≡ true = sym b ∙ e in
       record {
@@ -118,7 +120,7 @@ module _ {u : Letters} {profile : ℕ} {s : List ℕ} {from at kind suffixAt fou
         some = λ z. (w.members ∙ members_yes short h a c, w.seen ∙ seen_yes short h a c);
       }
 
-  pub seeking_on : {b : Bool} → b ≡ is_counted kind → b ≡ false → Seeking (tokens_by u profile) s from end
+  seeking_on : {b : Bool} → b ≡ is_counted kind → b ≡ false → Seeking (tokens_by u profile) s from end
   seeking_on b e =
       let c : is_counted kind ≡ false = sym b ∙ e in
       record {
@@ -128,7 +130,7 @@ module _ {u : Letters} {profile : ℕ} {s : List ℕ} {from at kind suffixAt fou
         seen = w.seen ∙ seen_no short h a c;
       }
 
-pub seeking_end : (u : Letters) (profile : ℕ) {s : List ℕ} {from at : ℕ} → Seeking (tokens_by u profile) s from at → length s ≤ at → Ahead (tokens_by u profile) s from eof at at at
+seeking_end : (u : Letters) (profile : ℕ) {s : List ℕ} {from at : ℕ} → Seeking (tokens_by u profile) s from at → length s ≤ at → Ahead (tokens_by u profile) s from eof at at at
 unfolding members_by counted sights
 seeking_end u profile {s} {from} {at} w h =
     let z : tokens_by u profile (drop at s) ≡ [] = rw (drop_of_length-le s {i = at} h) (none_of (keyable u profile)) in
@@ -139,4 +141,28 @@ seeking_end u profile {s} {from} {at} w h =
       some = λ l. absurd (omega arith);
     }
 
-pub ruleset seeking = (seeking_none, seeking_found, seeking_on, seeking_end)
+-- at the end the token is none, which counts
+module _ {u : Letters} {profile : ℕ} {s : List ℕ} {from at kind suffixAt found end : ℕ} (w : Seeking (tokens_by u profile) s from at) (short : length s ≤ longest) (a : TokenAt u profile s at kind suffixAt found end) where
+  at_end : length s ≤ at → (kind ≡ eof) × (suffixAt ≡ at) × (end ≡ at)
+  unfolding front
+  at_end h =
+      let e : token_at u profile s at ≡ front [] = first_one u profile s at short ∙ ap front (none_left u profile s at h) in
+      (a.kind_is ∙ ap (λ (t : Token). t.kind) e, omega (arith, a.suffix_is, ap (λ (t : Token). t.suffix) e), omega (arith, a.end_is, ap (λ (t : Token). t.len) e))
+
+  pub seeking_stop : {b : Bool} → b ≡ is_counted kind → b ≡ true → Ahead (tokens_by u profile) s from kind at suffixAt end
+  seeking_stop c e =
+      elim (dec_lt at (length s)) [
+        | yes h ↦ seeking_found w short h a c e
+        | no n ↦ let z = at_end (omega arith) in rw (z.0, z.1, z.2) (seeking_end u profile w (omega arith))
+      ]
+
+  pub seeking_within : {b : Bool} → b ≡ is_counted kind → b ≡ false → at < length s
+  unfolding is_counted
+  seeking_within c e =
+      elim (dec_lt at (length s)) [
+        | yes h ↦ h
+        | no n ↦ let z : is_counted kind ≡ true = rw (at_end (omega arith)).0 in absurd (false≢true (sym e ∙ c ∙ z))
+      ]
+
+  pub seeking_more : {b : Bool} → b ≡ is_counted kind → b ≡ false → Seeking (tokens_by u profile) s from end
+  seeking_more c e = seeking_on w short (seeking_within c e) a c e

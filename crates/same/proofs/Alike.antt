@@ -1,14 +1,14 @@
 -- Members are alike exactly when they are equal; and how far two lists agree.
 -- Assumes nothing.
-use Prim.Native.Nat.{ℕ, suc, ◌+◌, ◌-◌, ◌≤◌, ◌<◌}
+use Prim.Native.Nat.{ℕ, suc, ◌-◌, ◌≤◌, ◌<◌}
 use native.Mathlib.Omega.{arith}
-use native.Mathlib.Numerals.{add-one}
 use mathlib.Core.Path.{◌≡◌, refl, ap, sym, ◌∙◌}
 use mathlib.Core.Bool.{Bool, true, false, ◌&&◌, false≢true}
 use mathlib.Core.List.{List, [], ◌∷◌}
 use lib.Dec.{eqb}
-use lib.ListN.{length, take, drop, get_or, length-drop, drop_of_length-le}
-use lib.Seq.{drop-cons, length-take-le, take-length}
+use lib.Pointwise.{pointwise}
+use lib.ListN.{length, take, drop, get_or, length-drop}
+use lib.Seq.{length-take-le, take-length}
 use borrow.Author.Tests.{eqb-true, eq-eqb, ne_eqb}
 use Rattle.lists.proofs.Bools.{by_test, both, and_false}
 use Rattle.tokens.specs.Members.{Member}
@@ -31,6 +31,14 @@ pub bytes_same : (s : List ℕ) → same_bytes s s ≡ true
 unfolding same_bytes
 bytes_same [] = refl
 bytes_same (a ∷ s) = rw (eq-eqb a a refl) (bytes_same s)
+
+-- as `==` on slices tells it
+pub pointwise_same : (s t : List ℕ) → pointwise eqb s t ≡ same_bytes s t
+unfolding same_bytes
+pointwise_same [] [] = refl
+pointwise_same [] (b ∷ t) = refl
+pointwise_same (a ∷ s) [] = refl
+pointwise_same (a ∷ s) (b ∷ t) = ap (λ (x : Bool). eqb a b && x) (pointwise_same s t)
 
 -- ---- members
 abbrev make : ℕ → ℕ → ℕ → List ℕ → Member
@@ -81,8 +89,6 @@ pub alike_bytes : (s s' : List ℕ) (k a m e k' a' m' e' : ℕ) {r : Bool} → k
     r ≡ same_bytes (take (e - a) (drop a s)) (take (e' - a') (drop a' s')) → r ≡ alike (member_at s k a m e) (member_at s' k' a' m' e')
 alike_bytes s s' k a m e k' a' m' e' p q w w' h =
     h ∙ sym (alike_by (member_at s k a m e) (member_at s' k' a' m' e') p q (bytes_at w) (bytes_at w'))
-
-pub ruleset memberwise = (alike_kind, alike_suff, alike_bytes)
 
 -- ---- lists
 pub agree_more : (m m' : Member) (l l' : List Member) → alike m m' ≡ true → agree (m ∷ l) (m' ∷ l') ≡ suc (agree l l')
@@ -143,43 +149,3 @@ pub agree_self : (l : List Member) → agree l l ≡ length l
 unfolding agree
 agree_self [] = refl
 agree_self (m ∷ l) = agree_more m m l l (alike_self m) ∙ ap suc (agree_self l)
-
--- ---- byte by byte: to go on from here comes to the same
-pub record Comparing (a b : List ℕ) (i : ℕ) : Type 0 where
-  pub within : i ≤ length a
-  pub long : length a ≡ length b
-  pub same : same_bytes (drop i a) (drop i b) ≡ same_bytes a b
-
-pub comparing_none : (a b : List ℕ) → length a ≡ length b → Comparing a b 0
-comparing_none a b l = record { within = omega arith; long = l; same = refl }
-
-module _ {a b : List ℕ} {i : ℕ} (w : Comparing a b i) where
-  one : i < length a → same_bytes (drop i a) (drop i b) ≡ (eqb (get_or a i 0) (get_or b i 0) && same_bytes (drop (suc i) a) (drop (suc i) b))
-  unfolding same_bytes
-  one h =
-      let h' : i < length b = omega (arith, w.long) in
-      rw (drop-cons a i 0 h, drop-cons b i 0 h')
-
-  pub comparing_on : {i' : ℕ} → i < length a → get_or a i 0 ≡ get_or b i 0 → i' ≡ i + 1 → Comparing a b i'
-  comparing_on {i'} h e n =
-      let k : i' ≡ suc i = n ∙ add-one i in
-      record {
-        within = omega arith;
-        long = w.long;
-        same = rw k (sym (one h ∙ rw (eq-eqb _ _ e)) ∙ w.same);
-      }
-
-  pub comparing_stop : {r : Bool} → i < length a → (get_or a i 0 ≡ get_or b i 0 → ⊥) → r ≡ false → r ≡ same_bytes a b
-  comparing_stop h e n = n ∙ sym (one h ∙ rw (ne_eqb _ _ e)) ∙ w.same
-
-  pub comparing_end : {r : Bool} → length a ≤ i → r ≡ true → r ≡ same_bytes a b
-  unfolding same_bytes
-  comparing_end h n =
-      let z : same_bytes (drop i a) (drop i b) ≡ true = rw (drop_of_length-le a {i = i} h, drop_of_length-le b {i = i} (omega (arith, w.long))) in
-      n ∙ sym z ∙ w.same
-
-pub bytes_long : (a b : List ℕ) {r : Bool} → (length a ≡ length b → ⊥) → r ≡ false → r ≡ same_bytes a b
-bytes_long a b n e =
-    by_test (same_bytes a b) (λ h. absurd (n (ap length (bytes_equal a b h)))) (λ h. e ∙ sym h)
-
-pub ruleset bytewise = (comparing_none, comparing_on, comparing_stop, comparing_end, bytes_long)

@@ -4,17 +4,17 @@ use Prim.Native.Nat.{ℕ, suc, ◌+◌, ◌-◌, ◌≤◌, ◌<◌}
 use native.Mathlib.Decide.{dec_lt}
 use native.Mathlib.Omega.{arith}
 use mathlib.Core.Path.{◌≡◌, refl, ap, sym, ◌∙◌}
-use mathlib.Core.Bool.{Bool, true, false, cond, not, ◌&&◌, false≢true}
+use mathlib.Core.Bool.{Bool, true, false, cond, ◌&&◌, false≢true}
 use mathlib.Core.List.{List, []}
 use lib.Dec.{eqb}
 use lib.ListN.{length, drop, get_or}
 use lib.Seq.{drop-drop, get_or-drop}
-use borrow.Author.Tests.{eqb-true, eq-eqb, not-true, not-false}
+use borrow.Author.Tests.{eqb-true, eq-eqb}
 use Rattle.lists.proofs.Bools.{by_test, both}
 use Rattle.cutters.specs.Kinds.{eof}
 use Rattle.cutters.specs.Records.{Token}
 use Rattle.tokens.specs.Members.{Member, members_by}
-use Rattle.same.specs.Compare.{Sight, Compared, alike, agree, sights, end_of, same, different, parted_by, showing}
+use Rattle.same.specs.Compare.{Sight, alike, agree, sights, end_of, same, different, parted_by, showing}
 use Rattle.same.specs.Steps.{member_at, sight_at, members_from, sights_from, Ahead}
 use Rattle.same.proofs.Alike.{alike_equal, alike_self, agree_more, agree_stop}
 
@@ -105,12 +105,10 @@ module _ {cut : List ℕ → List Token} {s s' : List ℕ} {a b n kind start suf
       absurd (false≢true (sym e ∙ none_alike (none_left p z) (none_left q z'))))
       (λ f. f)
 
-  pub parting_stop : {r : Bool} {verdict number also agreed k o l k' o' l' : ℕ} → r ≡ alike m m' → not r ≡ true →
-      Compared (showing different n (sight_at kind start end) (sight_at kind' start' end')) verdict number also agreed k o l k' o' l' →
-      Compared (parted_by cut s s') verdict number also agreed k o l k' o' l'
-  parting_stop {r} e t c =
-      let f : alike m m' ≡ false = sym e ∙ not-true r t in
-      rw (parted_is different (stop_none f) (rw (stop_verdict f))) c
+  pub parting_stop : {r : Bool} → r ≡ alike m m' → r ≡ false → showing different n (sight_at kind start end) (sight_at kind' start' end') ≡ parted_by cut s s'
+  parting_stop {r} e t =
+      let f : alike m m' ≡ false = sym e ∙ t in
+      sym (parted_is different (stop_none f) (rw (stop_verdict f)))
 
   -- ---- the next two are alike
   alike_long : alike m m' ≡ true → end - start ≡ end' - start'
@@ -126,23 +124,29 @@ module _ {cut : List ℕ → List Token} {s s' : List ℕ} {a b n kind start suf
       let k' : n ≡ length (members_by cut s') = omega (arith, w.count', ap length (q.none h').3) in
       rw (eq-eqb n _ k, eq-eqb n _ k')
 
-  pub parting_same : {r : Bool} {verdict number also agreed k o l k' o' l' : ℕ} → r ≡ alike m m' → not r ≡ false → start ≡ end →
-      Compared (showing same n (sight_at kind start end) (sight_at kind' start' end')) verdict number also agreed k o l k' o' l' →
-      Compared (parted_by cut s s') verdict number also agreed k o l k' o' l'
-  parting_same {r} e t h c =
-      let f : alike m m' ≡ true = sym e ∙ not-false r t in
+  -- a token that shows no length is the end
+  ended : end - start ≡ 0 → start ≡ end
+  ended h = omega (arith, p.place.before_end)
+
+  pub parting_same : {r : Bool} → r ≡ alike m m' → r ≡ true → end - start ≡ 0 → showing same n (sight_at kind start end) (sight_at kind' start' end') ≡ parted_by cut s s'
+  parting_same {r} e t l =
+      let f : alike m m' ≡ true = sym e ∙ t in
+      let h = ended l in
       let h' : start' ≡ end' = omega (arith, alike_long f, q.place.before_end) in
-      rw (parted_is same (same_none h h') (rw (same_verdict h h'))) c
+      sym (parted_is same (same_none h h') (rw (same_verdict h h')))
 
   -- both are some, and what is left stands behind them
-  pub parting_some : {r : Bool} → r ≡ alike m m' → not r ≡ false → (start ≡ end → ⊥) → (start < end) × (start' < end')
+  parting_some : {r : Bool} → r ≡ alike m m' → r ≡ true → (end - start ≡ 0 → ⊥) → (start < end) × (start' < end')
   parting_some {r} e t h =
-      let f : alike m m' ≡ true = sym e ∙ not-false r t in
+      let f : alike m m' ≡ true = sym e ∙ t in
       (omega (arith, p.place.before_end), omega (arith, alike_long f, p.place.before_end))
 
-  pub parting_on : {r : Bool} {n' : ℕ} → r ≡ alike m m' → not r ≡ false → (start ≡ end → ⊥) → n' ≡ n + 1 → Parting cut s s' end end' n'
+  pub parting_smaller : {r : Bool} → r ≡ alike m m' → r ≡ true → (end - start ≡ 0 → ⊥) → length s - end < length s - a
+  parting_smaller e t h = omega (arith, p.after, p.place.within, (parting_some e t h).0)
+
+  pub parting_on : {r : Bool} {n' : ℕ} → r ≡ alike m m' → r ≡ true → (end - start ≡ 0 → ⊥) → n' ≡ n + 1 → Parting cut s s' end end' n'
   parting_on {r} {n'} e t h k =
-      let f : alike m m' ≡ true = sym e ∙ not-false r t in
+      let f : alike m m' ≡ true = sym e ∙ t in
       let h₁ : start < end = (parting_some e t h).0 in
       let h₂ : start' < end' = (parting_some e t h).1 in
       let x = p.some h₁ in
@@ -160,5 +164,3 @@ module _ {cut : List ℕ → List Token} {s s' : List ℕ} {a b n kind start suf
         seen = rw k (sym (drop-drop 1 n (sights 0 (cut s))) ∙ rw (w.seen, x.1));
         seen' = rw k (sym (drop-drop 1 n (sights 0 (cut s'))) ∙ rw (w.seen', y.1));
       }
-
-pub ruleset parting = (parting_none, parting_stop, parting_same, parting_on)

@@ -2,23 +2,22 @@
 -- Assumes nothing.
 use Prim.Native.Nat.{ℕ, ◌<◌}
 use native.Mathlib.Omega.{arith}
-use mathlib.Core.Path.{◌≡◌, sym, subst, ◌∙◌}
+use mathlib.Core.Path.{◌≡◌, ap, sym, subst, ◌∙◌}
 use mathlib.Core.Bool.{true, false, cond, ◌&&◌}
 use mathlib.Core.List.{List}
 use lib.Dec.{eqb}
 use lib.ListN.{length}
 use borrow.Author.Tests.{eq-eqb, ne_eqb, eqb-true}
 use Rattle.lists.proofs.Bools.{by_test, both}
-use Rattle.characters.specs.Ranges.{flat}
-use Rattle.ucd.specs.Ucd.{xid_start, xid_continue, emoji}
 use Rattle.characters.specs.Direction.{unmarked_up_to}
-use Rattle.text.specs.Answer.{Answered, done, direction_mark, check_cut, CutMarked}
-use Rattle.text.proofs.Checks.{cut_passed}
+use Rattle.text.specs.declared.Refusal.{Refusal}
+use Rattle.text.specs.Refusals.{refused}
+use Rattle.text.specs.Answer.{done, direction_mark, check_cut, CutMarked}
+use Rattle.text.proofs.Checks.{cut_accepted, never_done}
 use Rattle.text.proofs.Marks.{marked_refused}
 use Rattle.lexer.specs.Cut.{Letters}
-use Rattle.lexer.specs.Unicode.{lent}
+use Rattle.lexer.specs.Unicode.{unicode}
 use Rattle.lexer.specs.Promises.{tokens3, profile3, tokens_of, tokens_by}
-use Rattle.lexer.proofs.Unicode.{lent_is}
 use Rattle.lexer.proofs.Places.{known3}
 use Rattle.tokens.specs.Members.{Member, members_by, members_of}
 use Rattle.renewal.specs.Key.{key_of_text}
@@ -26,44 +25,33 @@ use Rattle.renewal.proofs.Exactly.{exactly_when}
 use Rattle.same.specs.Compare.{Sight, Comparison, Shown, Compared, agree, same, different, old_refused, new_refused, parted_by, refused_by, compared}
 use Rattle.same.proofs.Alike.{agree_all, agree_self}
 
--- ---- over the constant tables
-pub lent_parted : (profile : ℕ) (s s' : List ℕ) {verdict number also agreed k o l k' o' l' : ℕ} →
-    Compared (parted_by (tokens_by (lent (flat xid_start) (flat xid_continue) (flat emoji)) profile) s s') verdict number also agreed k o l k' o' l' →
-    Compared (parted_by (tokens3 profile) s s') verdict number also agreed k o l k' o' l'
-unfolding tokens3
-lent_parted profile s s' {verdict} {number} {also} {agreed} {k} {o} {l} {k'} {o'} {l'} c =
-    subst (λ (u : Letters). Compared (parted_by (tokens_by u profile) s s') verdict number also agreed k o l k' o' l') lent_is c
-
 -- under its profiles the comparison is that of OpenQASM 3's tokens
 parted_known : (profile : ℕ) (s s' : List ℕ) → profile3 profile ≡ true → parted_by (tokens_of profile) s s' ≡ parted_by (tokens3 profile) s s'
 unfolding parted_by members_by
 parted_known profile s s' h = rw (known3 profile s h, known3 profile s' h)
 
 -- ---- the three ways
-accepted_test : (profile : ℕ) (s : List ℕ) {n a : ℕ} → Answered (check_cut s profile) n a → n ≡ done → eqb (check_cut s profile).0 done ≡ true
-accepted_test profile s c z = eq-eqb _ _ (sym c.number_is ∙ z)
+accepted_test : (profile : ℕ) (s : List ℕ) → (done, 0) ≡ check_cut s profile → eqb (check_cut s profile).0 done ≡ true
+accepted_test profile s e = eq-eqb _ _ (ap (λ (x : ℕ × ℕ). x.0) (sym e))
 
-refused_test : (profile : ℕ) (s : List ℕ) {n a : ℕ} → Answered (check_cut s profile) n a → (n ≡ done → ⊥) → eqb (check_cut s profile).0 done ≡ false
-refused_test profile s c n = ne_eqb _ _ (λ z. n (c.number_is ∙ z))
+refused_test : (profile : ℕ) (s : List ℕ) (r : Refusal) → refused r ≡ check_cut s profile → eqb (check_cut s profile).0 done ≡ false
+refused_test profile s r e = ne_eqb _ _ (λ z. never_done r (ap (λ (x : ℕ × ℕ). x.0) e ∙ z))
 
-module _ (profile : ℕ) (s s' : List ℕ) {verdict number also agreed k o l k' o' l' : ℕ} where
-  pub old_refused_lem : {n a : ℕ} → Answered (check_cut s profile) n a → (n ≡ done → ⊥) →
-      Compared (refused_by old_refused (n, a)) verdict number also agreed k o l k' o' l' → Compared (compared profile s s') verdict number also agreed k o l k' o' l'
+module _ (profile : ℕ) (s s' : List ℕ) where
+  pub old_refused_is : (r : Refusal) → refused r ≡ check_cut s profile → refused_by old_refused (refused r) ≡ compared profile s s'
   unfolding compared
-  old_refused_lem c n r = rw (refused_test profile s c n) (rw (c.number_is, c.also_is) at r)
+  old_refused_is r e = rw (refused_test profile s r e) (ap (refused_by old_refused) e)
 
-  pub new_refused_lem : {n₀ a₀ n a : ℕ} → Answered (check_cut s profile) n₀ a₀ → n₀ ≡ done → Answered (check_cut s' profile) n a → (n ≡ done → ⊥) →
-      Compared (refused_by new_refused (n, a)) verdict number also agreed k o l k' o' l' → Compared (compared profile s s') verdict number also agreed k o l k' o' l'
+  pub new_refused_is : (r : Refusal) → (done, 0) ≡ check_cut s profile → refused r ≡ check_cut s' profile → refused_by new_refused (refused r) ≡ compared profile s s'
   unfolding compared
-  new_refused_lem c z c' n r = rw (accepted_test profile s c z, refused_test profile s' c' n) (rw (c'.number_is, c'.also_is) at r)
+  new_refused_is r c e = rw (accepted_test profile s c, refused_test profile s' r e) (ap (refused_by new_refused) e)
 
-  pub both_accepted : {n₀ a₀ n₁ a₁ : ℕ} → Answered (check_cut s profile) n₀ a₀ → n₀ ≡ done → Answered (check_cut s' profile) n₁ a₁ → n₁ ≡ done →
-      Compared (parted_by (tokens3 profile) s s') verdict number also agreed k o l k' o' l' → Compared (compared profile s s') verdict number also agreed k o l k' o' l'
-  unfolding compared
-  both_accepted c z c' z' r =
-      rw (accepted_test profile s c z, accepted_test profile s' c' z', parted_known profile s s' (cut_passed s profile c z).known) r
-
-pub ruleset ways = (old_refused_lem, new_refused_lem, both_accepted)
+  pub both_accepted : {u : Letters} {c : Comparison} → (done, 0) ≡ check_cut s profile → (done, 0) ≡ check_cut s' profile → u ≡ unicode → c ≡ parted_by (tokens_by u profile) s s' → c ≡ compared profile s s'
+  unfolding compared tokens3
+  both_accepted {c = c} p q l r =
+      let k = (cut_accepted s profile (ap (λ (x : ℕ × ℕ). x.0) (sym p))).known in
+      let t : c ≡ parted_by (tokens3 profile) s s' = subst (λ (u : Letters). c ≡ parted_by (tokens_by u profile) s s') l r in
+      rw (accepted_test profile s p, accepted_test profile s' q, parted_known profile s s' k) t
 
 -- ---- ONE OUTCOME
 shown_unique : {v : Sight} {k o l k' o' l' : ℕ} → Shown v k o l → Shown v k' o' l' → (k ≡ k') × (o ≡ o') × (l ≡ l')

@@ -1,3 +1,4 @@
 pub mod Compare
 pub mod Places
 pub mod Steps
+pub mod Told

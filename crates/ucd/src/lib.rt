@@ -4,13 +4,14 @@
 ghost use Rattle.std.specs.Prelude.{◌≡◌, List};
 ghost use Rattle.characters.specs.Ranges.{Range, in_table, flat};
 ghost use Rattle.ucd.specs.Ucd.{xid_start, xid_continue, emoji, white_space};
+ghost use Rattle.ucd.specs.Search.{searched};
 ghost use Rattle.ucd.specs.Order.{AsciiFirst, start_first, continue_first, emoji_first, space_first};
 ghost use Rattle.ucd.specs.Properties.{is_xid_start, is_xid_continue, is_emoji, is_white_space, ascii_start, ascii_continue, ascii_emoji, ascii_space, tested_in};
 
 mod ranges;
 pub mod tables;
 
-use ranges::search;
+use ranges::{search, search_by_call};
 
 // A property that characters have or not.
 pub trait Property {
@@ -108,6 +109,21 @@ impl Property for WhiteSpace {
     }
 }
 
+// Whether a character from 0x80 on has the property P over a table that is lent. Nearly every table that is lent is P's own: where the length is its
+// own table's, the compiler knows it, and each step of the search is a conditional move by a known number. Under a length that it does not
+// know, the steps above 32 ranges are a loop, with a jump in each that c decides: a text of CJK identifiers takes 1.3 times the instructions.
+// This is a call, so that `is_in` has ASCII alone in line.
+#[inline(never)]
+fn is_wide_in<P: Property>(table: &[u32], c: u32) -> bool
+    ensures { result ≡ searched table.now c }
+{
+    if table.len() == P::table().len() {
+        search(table, c)
+    } else {
+        search_by_call(table, c)
+    }
+}
+
 // Whether a character has the property P over a table that is lent in place of its own. A caller asks for each byte of an identifier: with a call
 // for each, a text of identifiers takes 1.3 times the instructions.
 #[inline(always)]
@@ -118,7 +134,7 @@ pub fn is_in<P: Property>(table: &[u32], c: u32) -> bool
     if c < 0x80 {
         P::is_ascii(c as u8)
     } else {
-        search(table, c)
+        is_wide_in::<P>(table, c)
     }
 }
 

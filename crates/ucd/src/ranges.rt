@@ -3,14 +3,6 @@
 ghost use Rattle.std.specs.Prelude.{◌≡◌, ◌+◌, ◌-◌, ◌*◌, ◌/◌, ◌≤◌, length};
 ghost use Rattle.ucd.specs.Search.{later, narrowed, among, searched};
 
-// How many ranges are searched: the first 32 are enough where c lies below the next, as the letters of most programs do.
-fn among(table: &[u32], c: u32) -> usize
-    ensures { result ≡ among table.now c }
-{
-    let n = table.len() / 2;
-    if 32 < n && c < table[64] { 32 } else { n }
-}
-
 // So many ranges from `base` on.
 #[derive(Clone, Copy)]
 struct Part {
@@ -44,15 +36,14 @@ fn last_of(table: &[u32], c: u32, p: Part) -> usize
     p.base
 }
 
-// A binary search: on a table in order, whether c lies in one of its ranges.
+// The search among so many ranges, from the first on. It is in line, as `search` is, so that it is compiled for each number of ranges that is known.
+#[inline(always)]
 #[tactic(auto, using(crate::proofs::Search::searches))]
-pub fn search(table: &[u32], c: u32) -> bool
+fn search_first(table: &[u32], c: u32, n: usize) -> bool
+    requires { n ≡ among table.now c }
     ensures { result ≡ searched table.now c }
 {
-    let mut p = Part {
-        base: 0,
-        size: among(table, c),
-    };
+    let mut p = Part { base: 0, size: n };
     if p.size == 0 {
         return false;
     }
@@ -61,4 +52,26 @@ pub fn search(table: &[u32], c: u32) -> bool
     }
     let k = last_of(table, c, p);
     (table[2 * k]..=table[2 * k + 1]).contains(&c)
+}
+
+// A binary search: on a table in order, whether c lies in one of its ranges. The first 32 are enough where c lies below the next, as the letters of
+// most programs do.
+#[inline(always)]
+pub fn search(table: &[u32], c: u32) -> bool
+    ensures { result ≡ searched table.now c }
+{
+    let n = table.len() / 2;
+    if 32 < n && c < table[64] {
+        search_first(table, c, 32)
+    } else {
+        search_first(table, c, n)
+    }
+}
+
+// The same by a call, for a table of any length.
+#[inline(never)]
+pub fn search_by_call(table: &[u32], c: u32) -> bool
+    ensures { result ≡ searched table.now c }
+{
+    search(table, c)
 }

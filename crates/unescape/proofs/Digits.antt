@@ -4,9 +4,9 @@ use Prim.Native.Nat.{ℕ, suc, ◌+◌, ◌-◌, ◌*◌, ◌^◌, ◌≤◌, �
 use native.Mathlib.Omega.{arith}
 use native.Mathlib.Nat.{pow-suc, pow-le-pow_right}
 use mathlib.Core.Path.{◌≡◌, refl}
-use mathlib.Core.Bool.{true, false, cond, false≢true}
+use mathlib.Core.Bool.{true, false, false≢true}
 use lib.Dec.{eqb, ltb}
-use borrow.Author.Tests.{lt-leb, lt-ltb, le-ltb, ltb-true, ltb-false, ne_eqb}
+use borrow.Author.Tests.{lt-leb, ltb-true, ltb-false, ne_eqb}
 use Rattle.std.specs.Prelude.{Option, Some, None, IfSome}
 use Rattle.std.specs.Bool.{then_some}
 use Rattle.unescape.specs.declared.escapes.Digits.{Digits}
@@ -14,7 +14,7 @@ use Rattle.unescape.specs.Steps.{is_digit, with_digit}
 use Rattle.lists.proofs.Bools.{by_test, and_false}
 use Rattle.characters.specs.Ranges.{◌to◌, in_range}
 use Rattle.characters.proofs.Rows.{in_range_lem}
-use Rattle.unescape.specs.Escapes.{to_digit, or_underscore, count_digit, valued, add_digit}
+use Rattle.unescape.specs.Escapes.{to_digit, or_underscore, add_digit}
 
 -- ---- the value of a digit, by its range
 -- what lies beyond the high end of a range does not lie in it

@@ -13,7 +13,8 @@ use Rattle.modes.specs.declared.errors.EscapeError.TheVariants as bad
 use Rattle.modes.specs.Errors.{Outcome, char, error}
 use Rattle.unescape.specs.Chars.{Next}
 use Rattle.unescape.specs.Escapes.{◌then◌, to_digit, hex_digit, hex_escape, first_digit, or_underscore, add_digit, more_digits, code_point, closing, braced, unicode_escape, simple, escape}
-use Rattle.unescape.specs.Steps.{outcome_of, is_digit, Scanned, AteOn}
+use Rattle.unescape.specs.Steps.{is_digit, Scanned, AteOn}
+use Rattle.modes.specs.Numbers.{outcome_of}
 use Rattle.unescape.proofs.Scans.{scanned_end, scanned_char, scanned_on, then_error, then_value}
 
 module _ {s s' : List ℕ} {at end : ℕ} {x : Option ℕ} (n : Next s at x s' end) {r : Result ℕ EscapeError} where

@@ -10,11 +10,11 @@ use Rattle.std.specs.Prelude.{Option, Some, None, Result, Ok, Err}
 use Rattle.characters.specs.Text.{Decoded, left}
 use Rattle.characters.proofs.Text.{decoded_point, left_end}
 use Rattle.modes.specs.declared.errors.EscapeError.{EscapeError}
-use Rattle.modes.specs.Numbers.{error_number}
+use Rattle.modes.specs.Numbers.{error_number, outcome_of}
 use Rattle.modes.specs.Errors.{Outcome, char, error}
 use Rattle.unescape.specs.Chars.{first_of, rest_of, Next}
 use Rattle.unescape.specs.Escapes.{◌then◌}
-use Rattle.unescape.specs.Steps.{outcome_of, Scanned}
+use Rattle.unescape.specs.Steps.{Scanned}
 
 -- ---- the next character
 pub next_end : {s : List ℕ} {at : ℕ} → at ≤ length s → length s ≤ at → Next s at None s at

@@ -1,6 +1,6 @@
 -- One turn over a body, and the one character of Char and Byte, as `search` takes the laws.
 -- Assumes nothing.
-use Prim.Native.Nat.{ℕ, ◌+◌, ◌-◌, ◌≤◌, ◌<◌}
+use Prim.Native.Nat.{ℕ, ◌-◌, ◌≤◌, ◌<◌}
 use native.Mathlib.Omega.{arith}
 use mathlib.Core.Path.{◌≡◌, refl, ap, sym, ◌∙◌}
 use mathlib.Core.Bool.{Bool, true, false, false≢true}
@@ -13,20 +13,20 @@ use Rattle.std.specs.Option.{is_some}
 use Rattle.lists.specs.Eat.{eat}
 use Rattle.lists.proofs.Bools.{by_test}
 use Rattle.ucd.specs.Properties.{is_white_space}
-use Rattle.characters.specs.Text.{Decoded, byte_length, left}
+use Rattle.characters.specs.Text.{byte_length, left}
 use Rattle.characters.specs.Steps.{Place}
-use Rattle.characters.proofs.Text.{decoded_point, left_end, bytes_chars}
+use Rattle.characters.proofs.Text.{bytes_chars}
 use Rattle.unescape.specs.declared.bodies.Step.{Step}
 use Rattle.modes.specs.declared.errors.EscapeError.{EscapeError}
 use Rattle.modes.specs.declared.errors.EscapeError.TheVariants as bad
-use Rattle.modes.specs.Numbers.{error_number}
+use Rattle.modes.specs.Numbers.{error_number, outcome_of}
 use Rattle.modes.specs.Modes.{is_raw, characters_should_be_ascii}
 use Rattle.modes.specs.Errors.{Outcome, char, error, number, multiple_skipped_lines_warning}
 use Rattle.unescape.specs.Chars.{rest_of, Next}
 use Rattle.unescape.specs.Escapes.{hex_escape, unicode_escape, simple, escape, ascii_check}
 use Rattle.unescape.specs.Bodies.{given, alone, is_escape_only, one_char, char_or_byte, str_char, raw_char, is_skipped, saw_lf, one, unskipped, skipped, slashed, str_common, raw_str, turn}
-use Rattle.unescape.specs.Steps.{outcome_of, step_of, item_from, space_from, Scanned, AteOn, Stepped, Behind, From}
-use Rattle.unescape.proofs.Scans.{next_end, next_char, next_none, next_some, next_onward, scanned_end, scanned_same, scanned_stay}
+use Rattle.unescape.specs.Steps.{step_of, item_from, space_from, Scanned, AteOn, Stepped, Behind, From}
+use Rattle.unescape.proofs.Scans.{next_none, next_some, next_onward, scanned_end, scanned_same, scanned_stay}
 use Rattle.unescape.proofs.Escaping.{escape_none, escape_hex, escape_unicode, escape_simple}
 
 -- ---- the place of what is left
@@ -233,4 +233,3 @@ module _ {s s₁ : List ℕ} {at at₁ : ℕ} {x : Option ℕ} (ascii_only : Boo
                 record { same = n₂.same; what = rw m (ap outcome_of w); place = rw m (record { after = omega (arith, after, p.after); within = p.within; there = p.there ∙ ap rest_of e }) }
             | Some c' ↦ λ z. absurd (false≢true (sym (rw z at h)))
           ] refl
-

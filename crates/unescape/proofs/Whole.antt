@@ -19,7 +19,7 @@ use Rattle.characters.proofs.Text.{ends_bytes}
 use Rattle.characters.specs.Utf8.{chars}
 use Rattle.ucd.specs.Properties.{is_white_space}
 use Rattle.characters.specs.Text.{byte_length, left}
-use Rattle.characters.proofs.Text.{point_at, left_end, bytes_chars}
+use Rattle.characters.proofs.Text.{bytes_chars}
 use Rattle.characters.proofs.Valid.{width_some}
 use Rattle.text.specs.Answer.{done, room_too_small, longest, check_text}
 use Rattle.text.specs.Steps.{Entered}
@@ -40,7 +40,7 @@ use Rattle.modes.specs.Modes.{is_raw, is_single, characters_should_be_ascii, byt
 use Rattle.modes.specs.Errors.{Outcome, error}
 use Rattle.unescape.specs.Escapes.{escape}
 use Rattle.unescape.specs.Bodies.{Item, given, char_or_byte, str_char, raw_char, is_skipped, saw_lf, item, one, unskipped, skipped, slashed, str_common, raw_str, turn, turns, items, items_of, flat}
-use Rattle.unescape.specs.Steps.{ascii_only, Scanned, From, Stepped, item_from, space_from, item_words, writes, Walked, StoredItems}
+use Rattle.unescape.specs.Steps.{ascii_only, Scanned, Stepped, item_from, space_from, item_words, writes, Walked, StoredItems}
 use Rattle.unescape.specs.Promises.{answer_of, listed, Unescaped, part, single, read_one}
 use Rattle.unescape.proofs.Fair.{allows_any, escape_fair}
 use Rattle.unescape.proofs.Turns.{place_of}

@@ -9,7 +9,7 @@ use Rattle.text.specs.Refusals.{refused}
 use Rattle.modes.specs.declared.errors.EscapeError.{EscapeError}
 use Rattle.modes.specs.Modes.{check_mode}
 use Rattle.modes.specs.Errors.{number}
-use Rattle.unescape.specs.Steps.{outcome_of}
+use Rattle.modes.specs.Numbers.{outcome_of}
 use Rattle.unescape.specs.Bodies.{char_or_byte, items_of, flat}
 
 -- ---- unescape_literal

@@ -10,17 +10,12 @@ use Rattle.unescape.specs.declared.bodies.Step.{Step}
 use Rattle.modes.specs.declared.Mode.{Mode}
 use Rattle.modes.specs.declared.errors.EscapeError.{EscapeError}
 use Rattle.modes.specs.Modes.{characters_should_be_ascii}
-use Rattle.modes.specs.Numbers.{mode_number, error_number}
+use Rattle.modes.specs.Numbers.{mode_number, outcome_of}
 use Rattle.modes.specs.Errors.{Outcome, char, error, number, unskipped_whitespace_warning}
 use Rattle.unescape.specs.Escapes.{to_digit}
 use Rattle.unescape.specs.Bodies.{Item, flat}
 
 -- ---- the answer of a scanner
--- what was read, as an outcome
-abbrev pub outcome_of : Result ℕ EscapeError → Outcome
-outcome_of (Ok c) = char c
-outcome_of (Err e) = error (error_number e)
-
 -- whether the characters of a mode should be ASCII
 abbrev pub ascii_only : Mode → Bool
 ascii_only m = characters_should_be_ascii (mode_number m)

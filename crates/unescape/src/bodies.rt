@@ -3,8 +3,8 @@ ghost use Rattle.std.specs.Prelude.{◌≡◌, false, length};
 ghost use Rattle.lists.specs.Eat.{eat};
 ghost use Rattle.characters.specs.Text.{left};
 ghost use Rattle.unescape.specs.Bodies.{is_escape_only, one_char, char_or_byte, str_char, is_skipped, saw_lf, skipped, slashed, str_common, raw_char, turn};
-ghost use Rattle.modes.specs.Numbers.{mode_number};
-ghost use Rattle.unescape.specs.Steps.{outcome_of, ascii_only, step_of, Scanned, AteOn, Behind, From};
+ghost use Rattle.modes.specs.Numbers.{mode_number, outcome_of};
+ghost use Rattle.unescape.specs.Steps.{ascii_only, step_of, Scanned, AteOn, Behind, From};
 
 use crate::chars::Chars;
 use crate::escapes::{ascii_check, scan_escape, scan_hex, scan_unicode, simple};

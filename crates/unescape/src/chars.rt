@@ -4,7 +4,8 @@ ghost use Rattle.unescape.specs.Chars.{Next};
 
 use characters::utf8::decode;
 
-// A place in a text, with what stands behind it still to come.
+// A place in a text, with what stands behind it still to come. What moves it on is compiled into the loop over a body (`inline(always)`), so that the place
+// stays in a register.
 #[derive(Clone, Copy)]
 pub struct Chars<'t> {
     pub text: &'t [u8],

@@ -1,7 +1,8 @@
 // Escapes: what stands behind a backslash.
 ghost use Rattle.std.specs.Prelude.{◌≡◌, ◌<◌, IfSome, IfOk};
 ghost use Rattle.unescape.specs.Escapes.{to_digit, hex_digit, hex_escape, first_digit, or_underscore, add_digit, code_point, closing, braced, unicode_escape, simple, escape, ascii_check};
-ghost use Rattle.unescape.specs.Steps.{outcome_of, ascii_only, is_digit, with_digit, Scanned, AteOn};
+ghost use Rattle.modes.specs.Numbers.{outcome_of};
+ghost use Rattle.unescape.specs.Steps.{ascii_only, is_digit, with_digit, Scanned, AteOn};
 
 use crate::chars::Chars;
 use modes::{EscapeError, Mode};
@@ -13,8 +14,8 @@ struct Digits {
     value: u32,
 }
 
-// The value of a hexadecimal digit, by its range. All three are asked, so that no jump depends on the digit, which cannot be guessed; so the value
-// of what is no digit is 16 until then.
+// The value of a hexadecimal digit, by its range. All three are asked, so that no jump depends on the digit, which cannot be guessed; until they are,
+// 16 stands for none.
 #[inline(always)]
 fn to_digit(c: u32) -> Option<u32>
     ensures { is_digit c result }
@@ -160,11 +161,7 @@ fn code_point(digits: Digits, mode: Mode) -> Result<u32, EscapeError>
 
 // Behind the digits of `\u{..}`.
 #[inline(always)]
-fn closing_brace(
-    chars: &mut Chars<'_>,
-    digits: Digits,
-    mode: Mode,
-) -> Result<u32, EscapeError>
+fn closing_brace(chars: &mut Chars<'_>, digits: Digits, mode: Mode) -> Result<u32, EscapeError>
     ensures { Scanned (closing (ascii_only mode) (digits.count, digits.value)) chars.old.text.now chars.old.at result chars.new.text.now chars.new.at }
 {
     match chars.next().ok_or(EscapeError::UnclosedUnicodeEscape)? {

@@ -5,9 +5,9 @@ ghost use Rattle.characters.specs.Utf8.{chars};
 ghost use Rattle.text.specs.Answer.{longest};
 ghost use Rattle.text.specs.Refusals.{given};
 ghost use Rattle.modes.specs.Errors.{number};
-ghost use Rattle.modes.specs.Numbers.{mode_number};
+ghost use Rattle.modes.specs.Numbers.{mode_number, outcome_of};
 ghost use Rattle.unescape.specs.Bodies.{char_or_byte, one, turns, items_of, flat};
-ghost use Rattle.unescape.specs.Steps.{outcome_of, ascii_only, item_words, writes, Walked, StoredItems};
+ghost use Rattle.unescape.specs.Steps.{ascii_only, item_words, writes, Walked, StoredItems};
 
 use crate::bodies::{turn, unescape_char_or_byte};
 use crate::chars::Chars;
@@ -25,12 +25,18 @@ pub fn outcome(read: Result<u32, EscapeError>) -> u32
     }
 }
 
-// The n-th item stored, but in an empty list: how many there are then.
-fn put(list: &mut [u32], n: usize, start: usize, end: usize, read: Result<u32, EscapeError>) -> usize
+// The n-th item stored, but in an empty list, where it is only counted: how many there are then.
+fn put(
+    list: &mut [u32],
+    n: usize,
+    start: usize,
+    end: usize,
+    read: Result<u32, EscapeError>,
+) -> usize
     requires { (n ≤ longest) × (start ≤ longest) × (end ≤ longest) × (0 < length list.old → 3 * n + 3 ≤ length list.old) }
     ensures { PutIf (writes list.old) list.old (3 * n) (item_words start end read) list.new (3 * result) }
 {
-    if list.len() == 0 {
+    if list.is_empty() {
         return n + 1;
     }
     let k = 3 * n;
@@ -64,14 +70,21 @@ fn walk_turns(body: &[u8], mode: Mode, list: &mut [u32]) -> usize
             n = put(list, n, start, chars.at, read);
         }
         if let Some(past) = step.space {
-            n = put(list, n, start, past, Err(EscapeError::UnskippedWhitespaceWarning));
+            n = put(
+                list,
+                n,
+                start,
+                past,
+                Err(EscapeError::UnskippedWhitespaceWarning),
+            );
         }
         start = chars.at;
     }
     n
 }
 
-// The items of a body: how many there are. They are stored, but in an empty list.
+// The items of a body, which are stored, but in an empty list: how many there are. Body and mode, and list and n, stay parameters: they are handed on
+// as they are, from each function to one other, and a struct of them would be made and taken apart once for every call.
 fn walk(body: &[u8], mode: Mode, list: &mut [u32]) -> usize
     requires { (length body.now ≤ longest) × (0 < length list.old → length (flat (items_of (mode_number mode) body.now)) ≤ length list.old) }
     ensures { Walked (items_of (mode_number mode) body.now) list.old result list.new }

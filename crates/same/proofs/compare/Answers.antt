@@ -1,16 +1,15 @@
-use Rattle.text.proofs.Checks.{cut_short}
-use Rattle.same.proofs.Whole.{ways}
-use borrow.Author.Rules.{rules}
+use Rattle.listing.proofs.Whole.{cut_short}
+use Rattle.same.proofs.Whole.{old_refused_is, new_refused_is, both_accepted}
 use Rattle.same.proofs.compare.Goals as goal
 
-pub returns-then-first-ne-DONE : goal.returns-then-first-ne-DONE
-returns-then-first-ne-DONE c = search (rules, ways)
+pub returns-in-Err : goal.returns-in-Err
+returns-in-Err c = old_refused_is _ _ _ _ c.in-Err.ensures
 
-pub returns-then-second-ne-DONE : goal.returns-then-second-ne-DONE
-returns-then-second-ne-DONE c = search (rules, ways)
+pub returns-in-Err-check_cut : goal.returns-in-Err-check_cut
+returns-in-Err-check_cut c = new_refused_is _ _ _ _ c.in_default.ensures c.in-Err-check_cut.ensures
 
-pub lend-requires : goal.lend-requires
-lend-requires c = (cut_short _ _ c.check_cut-first.ensures c.if-first-ne-DONE.false, cut_short _ _ c.check_cut-second.ensures c.if-second-ne-DONE.false)
+pub part-requires : goal.part-requires
+part-requires c = (cut_short _ _ c.in_default.ensures, cut_short _ _ c.in_default-check_cut.ensures)
 
 pub returns : goal.returns
-returns c = search (rules, ways)
+returns c = both_accepted _ _ _ c.in_default.ensures c.in_default-check_cut.ensures c.unicode.ensures c.part.ensures

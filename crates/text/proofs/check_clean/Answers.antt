@@ -1,5 +1,5 @@
 use borrow.Author.Rules.{rules}
-use Rattle.text.proofs.Checks.{marked, marks_long, marks_refused}
+use Rattle.text.proofs.Checks.{marked}
 use Rattle.text.proofs.check_clean.Goals as goal
 
 pub returns-then-text-gt-LONGEST : goal.returns-then-text-gt-LONGEST

@@ -1,4 +1,3 @@
-use mathlib.Core.Path.{refl}
 use Rattle.lists.specs.Steps.{values_from}
 use Rattle.renewal.specs.Key.{body_length}
 use Rattle.renewal.proofs.Bodies.{body_read, body_none}

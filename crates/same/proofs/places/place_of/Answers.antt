@@ -1,15 +1,8 @@
-use Rattle.same.proofs.Lines.{counting}
-use borrow.Author.Rules.{rules}
+use Rattle.same.proofs.Lines.{counting_none, counting_on}
 use Rattle.same.proofs.places.place_of.Goals as goal
 
-pub loop-i-init : goal.loop-i-init
-loop-i-init c = search (rules, counting)
+pub loop-b-init : goal.loop-b-init
+loop-b-init c = counting_none _ _ c.min-end.ensures
 
-pub returns-then-at-i : goal.returns-then-at-i
-returns-then-at-i c = search (rules, counting)
-
-pub loop-i-preserved : goal.loop-i-preserved
-loop-i-preserved c = search (rules, counting)
-
-pub returns : goal.returns
-returns c = search (rules, counting)
+pub loop-b-preserved : goal.loop-b-preserved
+loop-b-preserved c = counting_on c.loop-b.invariant c.loop-b-test.true c.behind-place.ensures

@@ -1,5 +1,4 @@
 use native.Mathlib.Omega.{arith}
-use mathlib.Core.Path.{refl}
 use Rattle.unescape.proofs.Turns.{slash_none, slash_skip, slash_hex, slash_unicode, slash_simple}
 use Rattle.unescape.proofs.bodies.slash.Goals as goal
 

@@ -1,6 +1,6 @@
 use borrow.Author.Rules.{rules}
 use native.Mathlib.Omega.{arith}
-use mathlib.Core.Path.{refl, sym, ◌∙◌}
+use mathlib.Core.Path.{sym, ◌∙◌}
 use Rattle.unescape.proofs.Eaten.{eaten_end, eaten_halt, eaten_more}
 use Rattle.unescape.proofs.Digits.{digit_wide, small_first, digit_adds, small_on, room_on, count_few}
 use Rattle.unescape.proofs.escapes.more_digits.Goals as goal

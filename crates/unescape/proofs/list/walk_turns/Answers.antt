@@ -1,8 +1,8 @@
-use mathlib.Core.Path.{refl, ◌∙◌}
+use mathlib.Core.Path.{refl}
 use native.Mathlib.Omega.{arith}
 use Rattle.modes.specs.Numbers.{mode_number}
 use Rattle.unescape.proofs.Turns.{turn_none, turn_view, turn_at}
-use Rattle.unescape.proofs.Whole.{Half, walking_none, walk_item, walk_no_item, walk_space, walk_no_space, walk_few, half_few, walk_room, half_room, walk_end}
+use Rattle.unescape.proofs.Whole.{Half, walk_item, walk_no_item, walk_space, walk_no_space, walk_few, half_few, walk_room, half_room, walk_end}
 use Rattle.unescape.proofs.list.walk_turns.Goals as goal
 use Rattle.unescape.proofs.list.walk_turns.Goals.{in-Some-item, in_default-item}
 

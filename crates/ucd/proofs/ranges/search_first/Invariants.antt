@@ -1,5 +1,5 @@
 use Rattle.ucd.proofs.Search.{Searching}
-use Rattle.ucd.proofs.ranges.search.Given as goal
+use Rattle.ucd.proofs.ranges.search_first.Given as goal
 
 abbrev pub invariant-loop-p : goal.invariant-loop-p
 invariant-loop-p l = Searching l.table l.c 0 l.initial.p.size l.p.base l.p.size
