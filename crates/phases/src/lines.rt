@@ -14,7 +14,7 @@ use cutters::Kind;
 use lexer::{is_whitespace, not_lf};
 
 impl Line {
-    pub fn kind(self) -> Kind
+    pub(crate) fn kind(self) -> Kind
         ensures { kind_number result ≡ line_kind (line_of self) }
     {
         match self {
