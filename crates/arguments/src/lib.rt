@@ -1,7 +1,7 @@
 // Which profile the words behind a program's name ask for, and what `oqlist` answers.
 #![tactic(auto)]
 
-ghost use Rattle.std.specs.Prelude.{◌≡◌, IfOk};
+ghost use Rattle.std.specs.Prelude.{◌≡◌, ◌<◌, IfSome, IfOk};
 ghost use Rattle.text.specs.Answer.{check_profile};
 ghost use Rattle.text.specs.Refusals.{given, checked};
 ghost use Rattle.arguments.specs.Arguments.{named, asked, told, ListedAsked};
@@ -14,7 +14,8 @@ pub const MOST: usize = 2048;
 
 // The profile that a word names.
 fn named(word: &[u8]) -> Option<u32>
-    ensures { told result ≡ named word.now }
+    ensures told { told result ≡ named word.now }
+    ensures known { IfSome result (λ p. p < 2) }
 {
     match word {
         b"0" => Some(0),
@@ -25,7 +26,8 @@ fn named(word: &[u8]) -> Option<u32>
 
 // The profile that so many words ask for, the first of which is lent: the default where there is none.
 pub fn profile_asked(words: usize, first: &[u8]) -> Option<u32>
-    ensures { told result ≡ asked words first.now }
+    ensures told { told result ≡ asked words first.now }
+    ensures known { IfSome result (λ p. p < 2) }
 {
     match words {
         0 => Some(default_profile()),

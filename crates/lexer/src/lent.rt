@@ -1,11 +1,14 @@
 // The tables of the letters, lent once for all that asks about characters.
 ghost use Rattle.std.specs.Prelude.{◌≡◌};
+ghost use Rattle.characters.specs.Ranges.{flat};
+ghost use Rattle.ucd.specs.Ucd.{xid_start, xid_continue, emoji};
 ghost use Rattle.lexer.specs.Cut.{wide_emoji, goes_on};
 ghost use Rattle.lexer.specs.Unicode.{start_in, more_in, emoji_in, unicode, letters_in};
 
 use ucd::{Emoji, Property, XidContinue, XidStart, is_in};
 
-// What begins an identifier, what goes on with one, and what is an emoji: tables of ranges, whatever they hold.
+// What begins an identifier, what goes on with one, and what is an emoji: tables of ranges, whatever they hold. The profile stands beside them: any
+// number is one, so that a struct of both would say no more of it.
 #[derive(Clone, Copy)]
 pub struct Letters<'t> {
     pub start: &'t [u32],
@@ -16,7 +19,8 @@ pub struct Letters<'t> {
 impl<'t> Letters<'t> {
     // Unicode's own.
     pub fn unicode() -> Letters<'static>
-        ensures { letters_in result ≡ unicode }
+        ensures letters { letters_in result ≡ unicode }
+        ensures tables { (result.start.now ≡ flat xid_start) × (result.more.now ≡ flat xid_continue) × (result.emoji.now ≡ flat emoji) }
     {
         Letters {
             start: XidStart::table(),

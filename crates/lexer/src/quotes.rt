@@ -8,7 +8,7 @@ ghost use Rattle.lexer.specs.Steps.{Quoted, Added, bits_by, lines_number};
 use crate::cursor::{Cursor, byte};
 use cutters::Kind;
 
-// A quoted text: whether it is closed, its kind, and the cursor behind it.
+// A quoted text: whether it is closed, its kind, and the cursor behind it, which there is either way: no Option.
 #[derive(Clone, Copy)]
 pub struct Quote {
     pub closed: bool,

@@ -196,17 +196,19 @@ fn words_of(whole: &str) -> &str {
 
 // Tells on standard error what went wrong, by the system's words for it where it has some.
 fn tell(rt: &HostRuntime, trouble: Trouble<'_>) -> io::Result<()> {
+    let Trouble { what, fault } = trouble;
     eprint!(rt; "oqsame: ")?;
-    rt.stderr().write_all(trouble.what)?;
-    match trouble.fault {
-        Fault::System(error) => {
-            let whole = format!(in rt.alloc(); "{error}")?;
-            let why = words_of(whole.as_str());
-            eprintln!(rt; ": {why}")
-        }
-        Fault::Interrupted => eprintln!(rt; ": reading was interrupted"),
-        Fault::TooLong => eprintln!(rt; ": longer than {MOST} bytes"),
+    if let Fault::System(error) = fault {
+        let whole = format!(in rt.alloc(); "{error}")?;
+        let why = words_of(whole.as_str());
+        rt.stderr().write_all(what)?;
+        return eprintln!(rt; ": {why}");
     }
+    rt.stderr().write_all(what)?;
+    if let Fault::Interrupted = fault {
+        return eprintln!(rt; ": reading was interrupted");
+    }
+    eprintln!(rt; ": longer than {MOST} bytes")
 }
 
 // Goes on where the words behind the two names, the first of which is lent, ask for a profile that is known.

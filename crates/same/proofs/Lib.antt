@@ -6,3 +6,4 @@ pub mod Shown
 pub mod Lines
 pub mod Columns
 pub mod Samples
+pub mod OneOutcome

@@ -23,6 +23,8 @@ pub use modes::{
 };
 use text::{Refusal, check_text};
 
+// The items of a body, three words for each: start, end and outcome. Start and end count bytes from the body's first; the
+// outcome is the code point, or 1,114,112 plus the number of its `EscapeError`.
 pub fn unescape_literal(body: &[u8], mode: u32, list: &mut [u32]) -> Result<usize, Refusal>
     ensures { Unescaped body.now mode list.old (given result).0 (given result).1 list.new }
 {

@@ -6,4 +6,4 @@ pub returns-in_err-check_text : goal.returns-in_err-check_text
 returns-in_err-check_text c = search (rules, identified_refused)
 
 pub returns : goal.returns
-returns c = identified_done _ (search rules) c.unicode.ensures c.is_ident_in.ensures
+returns c = identified_done _ (search rules) c.unicode.ensures.letters c.is_ident_in.ensures

@@ -11,4 +11,4 @@ pub store-requires : goal.store-requires
 store-requires c = cut_short _ _ c.in_ok-check_cut.ensures
 
 pub returns : goal.returns
-returns c = listed_done _ _ c.in_ok-check_cut.ensures c.unicode.ensures c.store.ensures
+returns c = listed_done _ _ c.in_ok-check_cut.ensures c.unicode.ensures.letters c.store.ensures

@@ -8,7 +8,7 @@ returns-in_err-judged c =
     rw (p.1, p.2) (rowed_refused _ c.in_err-judged.ensures)
 
 pub fill-requires : goal.fill-requires
-fill-requires c = judged_passed _ _ _ c.in_ok-judged.ensures c.unicode.ensures
+fill-requires c = judged_passed _ _ _ c.in_ok-judged.ensures c.unicode.ensures.letters
 
 pub returns : goal.returns
-returns c = rowed_done _ _ _ c.in_ok-judged.ensures c.unicode.ensures c.fill.ensures
+returns c = rowed_done _ _ _ c.in_ok-judged.ensures c.unicode.ensures.letters c.fill.ensures

@@ -12,4 +12,4 @@ pub part-requires : goal.part-requires
 part-requires c = (cut_short _ _ c.in_default.ensures, cut_short _ _ c.in_default-check_cut.ensures)
 
 pub returns : goal.returns
-returns c = both_accepted _ _ _ c.in_default.ensures c.in_default-check_cut.ensures c.unicode.ensures c.part.ensures
+returns c = both_accepted _ _ _ c.in_default.ensures c.in_default-check_cut.ensures c.unicode.ensures.letters c.part.ensures
