@@ -165,7 +165,7 @@ fn read_name<'a>(
     Err(Trouble { what, fault })
 }
 
-// Reads the two names, then the two files.
+// Reads the two names, then the two files. It takes arrays: where `run` lends slices of its own, the check of their ends runs out of stack.
 fn compare<'a, R: Print + Env + Files>(
     rt: &R,
     profile: u32,
