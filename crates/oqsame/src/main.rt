@@ -165,7 +165,7 @@ fn read_name<'a>(
     Err(Trouble { what, fault })
 }
 
-// Reads the two names, then the two files.
+// Reads the two names, then the two files. It takes arrays: where `run` lends slices of its own, the check of their ends runs out of stack.
 fn compare<'a, R: Print + Env + Files>(
     rt: &R,
     profile: u32,
@@ -184,8 +184,6 @@ fn compare<'a, R: Print + Env + Files>(
     })
 }
 
-// As in oqlist, from which a program cannot take it.
-//
 // The system's words for an error, without the number that std puts behind them. This, and what is told and counted below, stands in each program: in a
 // library it would owe a promise, and of the system's words and the environment there is none to give.
 fn words_of(whole: &str) -> &str {

@@ -86,9 +86,6 @@ fn list_input<R: Print + Input>(rt: &R, profile: u32) -> Result<(), Fault> {
     println!(rt; "tokens {sum}").map_err(Fault::Output)
 }
 
-// This and `fail`, `words` and `Records` stand in oqlist too: a program lends no code to another, and a library function here has a promise for every
-// input, which what the system says cannot have.
-//
 // The system's words for an error, without the number that std puts behind them. This, and what is told and counted below, stands in each program: in a
 // library it would owe a promise, and of the system's words and the environment there is none to give.
 fn words_of(whole: &str) -> &str {
