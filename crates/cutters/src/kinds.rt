@@ -77,6 +77,8 @@ impl Base {
 }
 
 impl Kind {
+    // In line, since `listing` asks it of every token; called from many places it would not be.
+    #[inline(always)]
     pub fn number(self) -> u32
         ensures { result ≡ kind_number self }
     {

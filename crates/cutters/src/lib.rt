@@ -6,7 +6,7 @@ mod kinds;
 pub use kinds::{Base, Kind, UnknownKind};
 
 // A token: its kind, the place where its suffix starts (of a literal with none, its end; of all else, its own start), how far into it its
-// first misplaced underscore stands, 0 for none, and its end.
+// first misplaced underscore stands, 0 for none as in the words of a record, and its end.
 #[derive(Clone, Copy)]
 pub struct Piece {
     pub kind: Kind,

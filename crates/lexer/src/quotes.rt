@@ -26,7 +26,7 @@ enum Lines {
 }
 
 // What was seen of a quoted text: whether all of it is 0, 1, an underscore or LF; how many LF there are; whether two underscores stand
-// side by side; and the last character.
+// side by side; and the last character. The flags stand beside no value.
 #[derive(Clone, Copy)]
 struct Body {
     plain: bool,

@@ -34,7 +34,7 @@ use state::{Point, Rules, State};
 use text::{Answer, Refusal};
 
 // Of the last accepted call: where its tokens start and end, where its chunk starts, how long that and the carry were, how many bytes of these tokens
-// belong into the carry, and how many are kept there in all.
+// belong into the carry, and how many are kept there in all: a part of `Lexer`, and C's.
 #[repr(C)]
 #[derive(Clone, Copy, Default)]
 pub struct Last {

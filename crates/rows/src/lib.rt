@@ -14,7 +14,7 @@ use lexer::Letters;
 use listing::{cut_run, tokenize};
 use text::{Refusal, check_cut};
 
-// A token as `tokenize` lists it in words.
+// A token as `tokenize` lists it in words: C gets it so.
 #[repr(C)]
 #[derive(Clone, Copy)]
 pub struct Token {

@@ -35,7 +35,7 @@ impl Found {
     }
 }
 
-// Line comments, closed block comments and white space are uncounted.
+// Line comments, closed block comments and white space are uncounted. By the number of a kind, as the words of a run have it.
 fn is_counted(kind: u32) -> bool
     ensures { result ≡ is_counted kind }
 {
