@@ -7,3 +7,4 @@ pub mod Checking
 pub mod Calling
 pub mod Bridge
 pub mod Unique
+pub mod Moving

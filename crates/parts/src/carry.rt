@@ -24,13 +24,13 @@ pub fn end_before(list: &[u32], count: usize, place: u32, from: u32) -> usize
     end
 }
 
-// n bytes from a place on, moved to the front.
+// n bytes from a place on, moved to the front, one by one: `copy_within` calls memmove, and the archive needs no function but memcpy and memset (oq3.h).
 fn move_down(carry: &mut [u8], from: usize, n: usize)
     requires { n ≤ length carry.old - from }
     ensures { carry.new ≡ over (take n (drop from carry.old)) carry.old }
 {
-    if n > 0 {
-        carry.copy_within(from..from + n, 0);
+    for i in 0..n {
+        carry[i] = carry[from + i];
     }
 }
 
