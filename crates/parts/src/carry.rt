@@ -24,7 +24,8 @@ pub fn end_before(list: &[u32], count: usize, place: u32, from: u32) -> usize
     end
 }
 
-// n bytes from a place on, moved to the front, one by one: `copy_within` calls memmove, and the archive needs no function but memcpy and memset (oq3.h).
+// n bytes from a place on, moved to the front, one by one, as below: `copy_within` and `copy_from_slice` call memmove, and the archive needs no function but
+// memcpy and memset (oq3.h).
 fn move_down(carry: &mut [u8], from: usize, n: usize)
     requires { n ≤ length carry.old - from }
     ensures { carry.new ≡ over (take n (drop from carry.old)) carry.old }
@@ -40,7 +41,9 @@ fn copy_in(carry: &mut [u8], k: usize, bytes: &[u8]) -> usize
     ensures { Copied carry.old k bytes.now result carry.new }
 {
     let n = bytes.len().min(carry.len() - k);
-    carry[k..k + n].copy_from_slice(&bytes[..n]);
+    for i in 0..n {
+        carry[k + i] = bytes[i];
+    }
     k + n
 }
 
