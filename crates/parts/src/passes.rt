@@ -36,6 +36,7 @@ fn put(list: &mut [u32], write: bool, k: usize, given: Option<Record>, at: u32) 
 
 impl Went {
     // One character more.
+    #[inline(always)]
     fn feed(self, c: u32, write: bool, list: &mut [u32], rules: Rules<'_>) -> Went
         requires { StepReady (letters_in rules.letters) rules.profile self c write list.old }
         ensures { Gone (feed (letters_in rules.entry.letters) rules.entry.profile self.point.begun (state_of self.point.state) c) write list.old self.words result list.new }

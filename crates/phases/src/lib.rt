@@ -104,6 +104,7 @@ pub struct Look<'t> {
 
 impl End {
     // Of a token that is no literal.
+    #[inline(always)]
     fn plain(kind: Kind) -> End
         ensures suffix { result.suffix ≡ false }
         ensures kind { result.kind ≡ kind_number kind }
@@ -115,6 +116,7 @@ impl End {
     }
 
     // Of a literal that has no suffix so far.
+    #[inline(always)]
     fn literal(kind: Kind) -> End
         ensures suffix { result.suffix ≡ true }
         ensures kind { result.kind ≡ kind_number kind }

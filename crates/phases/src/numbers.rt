@@ -24,6 +24,7 @@ pub fn digit_phase(c: u32) -> Phase
 }
 
 // Where a literal may have a suffix.
+#[inline(always)]
 pub fn suffix_acts(kind: u32, look: Look<'_>) -> Act
     ensures { act_of result ≡ suffix_acts (lent_to look.entry) kind (look.entry.here ∷ []) }
 {
@@ -36,6 +37,7 @@ pub fn suffix_acts(kind: u32, look: Look<'_>) -> Act
     Act::Halts(End { suffix: true, kind })
 }
 
+#[inline(always)]
 pub fn suffixed_acts(kind: u32, look: Look<'_>) -> Act
     ensures { act_of result ≡ act (lent_to look.entry) (suffixed kind) (look.entry.here ∷ []) }
 {
@@ -49,6 +51,7 @@ pub fn suffixed_acts(kind: u32, look: Look<'_>) -> Act
 }
 
 // Where a number ends: a unit is no suffix.
+#[inline(always)]
 fn number_ends(end: End, look: Look<'_>) -> Act
     requires { end.suffix ≡ true }
     ensures { act_of result ≡ number_ends (lent_to look.entry) end.kind (look.entry.here ∷ look.entry.next ∷ []) }
@@ -60,6 +63,7 @@ fn number_ends(end: End, look: Look<'_>) -> Act
 }
 
 // Behind digits.
+#[inline(always)]
 fn fraction_acts(base: Base, look: Look<'_>) -> Act
     ensures { act_of result ≡ fraction_acts (lent_to look.entry) (base_of base) (look.entry.here ∷ look.entry.next ∷ []) }
 {
@@ -72,6 +76,7 @@ fn fraction_acts(base: Base, look: Look<'_>) -> Act
     number_ends(End::int(base, false), look)
 }
 
+#[inline(always)]
 pub fn figure_acts(base: Base, any: bool, look: Look<'_>) -> Act
     ensures { act_of result ≡ figure_acts (lent_to look.entry) (base_of base) any (look.entry.here ∷ look.entry.next ∷ []) }
 {
@@ -124,6 +129,7 @@ pub fn decimals_acts(base: Base, look: Look<'_>) -> Act
 }
 
 // In the digits of an exponent.
+#[inline(always)]
 pub fn power_acts(base: Base, any: bool, look: Look<'_>) -> Act
     ensures { act_of result ≡ power_acts (lent_to look.entry) (base_of base) any (look.entry.here ∷ look.entry.next ∷ []) }
 {

@@ -20,6 +20,7 @@ pub struct Tracker {
 }
 
 impl Tracker {
+    #[inline(always)]
     pub fn fresh(c: u32) -> Tracker
         ensures { tracker_of result ≡ fresh c }
     {
@@ -32,12 +33,14 @@ impl Tracker {
         }
     }
 
+    #[inline(always)]
     fn is_late(self, c: u32) -> bool
         ensures { result ≡ late (tracker_of self) c }
     {
         self.wait.is_some() && !is_digit_by(self.hex, c)
     }
 
+    #[inline(always)]
     fn is_bare(self, c: u32) -> bool
         ensures { result ≡ bare (tracker_of self) c }
     {
@@ -45,6 +48,7 @@ impl Tracker {
     }
 
     // The x behind a first 0.
+    #[inline(always)]
     fn is_x(self, n: u32, c: u32) -> bool
         ensures { result ≡ is_x (tracker_of self) n c }
     {
@@ -52,6 +56,7 @@ impl Tracker {
     }
 
     // One character more, at place n; `suffix`: the suffix starts there.
+    #[inline(always)]
     #[tactic(auto, unfolding(feeding::specs::Tracker::seen))]
     pub fn see(self, suffix: bool, n: u32, c: u32) -> Tracker
         ensures { tracker_of result ≡ seen (tracker_of self) suffix n c }
