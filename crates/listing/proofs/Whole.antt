@@ -4,16 +4,19 @@ use Prim.Native.Nat.{ℕ, suc, ◌+◌, ◌-◌, ◌*◌, ◌/◌, ◌≤◌, �
 use native.Mathlib.Decide.{dec_lt}
 use native.Mathlib.Omega.{arith}
 use mathlib.Core.Path.{◌≡◌, refl, ap, sym, ◌∙◌, subst}
+use mathlib.Core.Bool.{true, ◌||◌}
 use mathlib.Core.Logic.{◌⊎◌, inl, inr}
 use mathlib.Core.List.{List, [], ◌∷◌, ◌++◌}
 use lib.ListN.{length, take, drop, get_or, length-take, length-drop, drop_of_length-le}
 use lib.Seq.{sets, length-sets, take_all, take-nil}
 use lib.Dec.{ltb}
 use borrow.Author.Tests.{lt-ltb, le-ltb}
+use Rattle.lists.specs.All.{Each}
 use Rattle.lists.proofs.Bools.{by_test}
 use Rattle.lists.proofs.Put.{sets_append}
 use Rattle.lists.proofs.Store.{stored_front}
 use Rattle.characters.proofs.Text.{point_at}
+use Rattle.characters.specs.Utf8.{chars}
 use Rattle.characters.specs.Direction.{unmarked_up_to}
 use Rattle.text.specs.Answer.{done, direction_mark, longest, check_cut, CutMarked}
 use Rattle.text.specs.Steps.{Entered}
@@ -22,7 +25,8 @@ use Rattle.text.specs.declared.Refusal.{Refusal}
 use Rattle.text.specs.Refusals.{refused}
 use Rattle.text.proofs.Checks.{cut_accepted, never_done}
 use Rattle.text.proofs.Marks.{marked_refused}
-use Rattle.cutters.specs.Kinds.{eof}
+use Rattle.cutters.specs.Kinds.{eof, is_plain, is_literal}
+use Rattle.cutters.specs.Numbers.{known_kind}
 use Rattle.cutters.specs.Records.{Token, total, record_words, misplaced_at, words_of, flat_from}
 use Rattle.cutters.specs.Underscores.{misplaced_in, misplaced_of}
 use Rattle.cutters.proofs.Underscores.{word_most}
@@ -32,6 +36,8 @@ use Rattle.lexer.specs.Unicode.{unicode}
 use Rattle.listing.specs.Steps.{Filled, StoredTokens, run_from}
 use Rattle.lexer.specs.Promises.{tokens3, tokens_of, front, tokens_by, Advanced}
 use Rattle.listing.specs.Promises.{answer_of, listed, Listed, run, CutRun, token_at, TokenAt}
+use Rattle.tokens.specs.Tiling.{Formed}
+use Rattle.tokens.proofs.Tiling.{tiles_chars}
 use Rattle.lexer.proofs.Places.{few_tokens, tokens_some, tokens_first, next_within, none_left, advanced_view, end_some, known3}
 
 -- ---- a run of tokens: to go on from here comes to the same
@@ -252,12 +258,13 @@ module _ (u : Letters) (profile : ℕ) (s : List ℕ) (at : ℕ) where
       record {
         kind_is = sym (ap (λ (t : Token). t.kind) e);
         suffix_is = omega (arith, ap (λ (t : Token). t.suffix) e);
-        found_is = sym (ap (misplaced_at s at) e);
+        found_is = rw e refl;
         end_is = omega (arith, ap (λ (t : Token). t.len) e);
       }
 
-  pub one_token : {kind suffixAt found end : ℕ} → length s ≤ longest → Advanced u profile s at kind suffixAt found end → TokenAt u profile s at kind suffixAt found end
-  one_token h a =
+  -- and of any other, what the cutter tells there
+  pub advanced_token : {kind suffixAt found end : ℕ} → length s ≤ longest → Advanced u profile s at kind suffixAt found end → TokenAt u profile s at kind suffixAt found end
+  advanced_token h a =
       let e = sym (first_of h) in
       record {
         kind_is = a.kind_is ∙ ap (λ (t : Token). t.kind) e;
@@ -265,6 +272,21 @@ module _ (u : Letters) (profile : ℕ) (s : List ℕ) (at : ℕ) where
         found_is = a.found_is ∙ ap (misplaced_at s at) e;
         end_is = a.end_is ∙ ap (λ (t : Token). at + t.len) e;
       }
+
+-- ---- the kind of a token at a place is known
+listed_known : (k : ℕ) → (is_plain k || is_literal k) ≡ true → known_kind k ≡ true
+listed_known k h = grind arith
+
+front_known : (ts : List Token) → Each Formed ts → known_kind (front ts).kind ≡ true
+unfolding front
+front_known [] e = refl
+front_known (t ∷ ts) e = listed_known t.kind (e.0).listed
+
+token_known : (u : Letters) (profile : ℕ) (s : List ℕ) (at : ℕ) → known_kind (token_at u profile s at).kind ≡ true
+unfolding run
+token_known u profile s at =
+    by_test (ltb longest (length s)) (λ t. rw t (front_known [] tt))
+    (λ t. rw (t, front_one (tokens_by u profile (drop at s))) (front_known (tokens_by u profile (drop at s)) (tiles_chars u profile (chars (drop at s))).each))
 
 -- ---- as the words of a run tell it
 -- a record of noughts, and the words of at most one token before it
@@ -282,10 +304,20 @@ unfolding run
 one_few u profile s at =
     by_test (ltb longest (length s)) (λ t. rw t (omega arith)) (λ t. rw t (omega (arith, length-take 1 (tokens_by u profile (drop at s)))))
 
-pub run_token : {u : Letters} {profile : ℕ} {s list' : List ℕ} {at end count : ℕ} → CutRun u profile s at none end count list' → TokenAt u profile s at (get_or list' 0 0) (at + get_or list' 2 0) (get_or list' 4 0) end
-run_token {u} {profile} {s} {at = at} r =
-    let w = one_words s at (run u profile s at 1) (one_few u profile s at) r.words in
-    record { kind_is = w.0; suffix_is = ap (λ (n : ℕ). at + n) w.1; found_is = w.2; end_is = r.reached ∙ ap (λ (n : ℕ). at + n) w.3 }
+module _ {u : Letters} {profile : ℕ} {s list' : List ℕ} {at end count : ℕ} (r : CutRun u profile s at none end count list') where
+  pub run_token : TokenAt u profile s at (get_or list' 0 0) (at + get_or list' 2 0) (get_or list' 4 0) end
+  run_token =
+      let w = one_words s at (run u profile s at 1) (one_few u profile s at) r.words in
+      record { kind_is = w.0; suffix_is = ap (λ (n : ℕ). at + n) w.1; found_is = w.2; end_is = r.reached ∙ ap (λ (n : ℕ). at + n) w.3 }
+
+  -- and its kind is one
+  pub run_kind : known_kind (get_or list' 0 0) ≡ true
+  run_kind = ap known_kind run_token.kind_is ∙ token_known u profile s at
+
+  -- `one_token` of the words: what is answered where they are told
+  pub one_token : {kind suffixAt found end' : ℕ} → kind ≡ get_or list' 0 0 → suffixAt ≡ at + get_or list' 2 0 → found ≡ get_or list' 4 0 → end' ≡ end → TokenAt u profile s at kind suffixAt found end'
+  one_token k m f e =
+      record { kind_is = k ∙ run_token.kind_is; suffix_is = m ∙ run_token.suffix_is; found_is = f ∙ run_token.found_is; end_is = e ∙ run_token.end_is }
 
 -- a place of the token is at or behind its start, and within the text
 module _ {u : Letters} {profile : ℕ} {s : List ℕ} {at kind suffixAt found end : ℕ} (a : TokenAt u profile s at kind suffixAt found end) where

@@ -1,11 +1,11 @@
 // The list of tokens of a whole text, or of a run of them from a place on, the words of a record for each.
 #![tactic(auto)]
 
-ghost use Rattle.std.specs.Prelude.{◌≡◌, ◌+◌, ◌-◌, ◌≤◌, [], ◌∷◌, length};
+ghost use Rattle.std.specs.Prelude.{◌≡◌, true, ◌+◌, ◌-◌, ◌≤◌, [], ◌∷◌, length};
 ghost use Rattle.std.proofs.lemmas.List.Edits.{sets};
 ghost use Rattle.text.specs.Answer.{longest};
 ghost use Rattle.text.specs.Refusals.{given};
-ghost use Rattle.cutters.specs.Numbers.{kind_number};
+ghost use Rattle.cutters.specs.Numbers.{kind_number, known_kind};
 ghost use Rattle.cutters.specs.Records.{record_words};
 ghost use Rattle.lexer.specs.Unicode.{letters_in};
 ghost use Rattle.lexer.specs.Promises.{tokens_by};
@@ -80,20 +80,27 @@ pub fn cut_run(
     fill(text, from, profile, list, letters)
 }
 
-// The token at a place; where `cut_run` gives none, Eof and no length. It asks the cutter itself: linked beside the lists it is a second caller,
-// and the cutter is then compiled into neither, which costs `tokenize` up to 60 per cent on programs. So this project's crates take runs of one.
+// The kind with a number that a run tells, which is a kind's.
+fn kind_of(number: u32) -> Kind
+    requires { known_kind number ≡ true }
+    ensures { kind_number result ≡ number }
+{
+    Kind::try_from(number).unwrap_or(Kind::Unknown)
+}
+
+// The token at a place, by a run of one; where `cut_run` gives none, Eof and no length. To ask the cutter itself would be a second call of it, and it
+// is then compiled into neither: linked beside this, `tokenize` took up to 60 per cent more.
 pub fn token_at(text: &[u8], at: usize, profile: u32, letters: &Letters<'_>) -> Piece
     ensures { TokenAt (letters_in letters.now) profile text.now at (kind_number result.kind) result.suffix result.misplaced result.end }
 {
-    if LONGEST < text.len() {
-        return Piece {
-            kind: Kind::Eof,
-            suffix: at,
-            misplaced: 0,
-            end: at,
-        };
+    let mut words = [0; RECORD];
+    let r = cut_run(text, at, profile, &mut words, letters);
+    Piece {
+        kind: kind_of(words[0]),
+        suffix: at + words[2] as usize,
+        misplaced: words[4] as usize,
+        end: r.at,
     }
-    advance_token(text, at, profile, letters)
 }
 
 // How many tokens a text has, by runs of 64: the place moves by a run.

@@ -1,6 +1,6 @@
 -- The answer and the row of a whole call.
 -- Assumes nothing.
-use Prim.Native.Nat.{ℕ, ◌*◌, ◌/◌, ◌≤◌, ◌<◌}
+use Prim.Native.Nat.{ℕ, ◌-◌, ◌*◌, ◌/◌, ◌≤◌, ◌<◌}
 use native.Mathlib.Omega.{arith}
 use mathlib.Core.Path.{◌≡◌, refl, ap, sym, ◌∙◌, subst}
 use mathlib.Core.Bool.{true, false}
@@ -22,9 +22,10 @@ use Rattle.cutters.specs.Records.{record_words, flat_from}
 use Rattle.lexer.specs.Cut.{Letters}
 use Rattle.lexer.specs.Unicode.{unicode}
 use Rattle.lexer.specs.Promises.{tokens3, tokens_of, front, tokens_by}
-use Rattle.listing.specs.Promises.{answer_of, Listed, run, CutRun}
+use Rattle.listing.specs.Promises.{answer_of, Listed, run, CutRun, token_at, TokenAt}
+use Rattle.listing.proofs.Whole.{first_of}
 use Rattle.lexer.proofs.Places.{few_tokens, tokens_first, known3}
-use Rattle.rows.specs.Rows.{fields, records, rowed, Rowed}
+use Rattle.rows.specs.Rows.{record_of, fields, records, rowed, Rowed}
 use Rattle.rows.specs.Steps.{record_at, Judged, Filled}
 use Rattle.rows.specs.declared.Token.{Token}
 use Rattle.rows.proofs.Filling.{length_records}
@@ -44,6 +45,15 @@ unfolding run flat_from front
 record_cut {u} {profile} {s} {at = at} short h r f =
     let e = tokens_first u profile _ _ (drop at s) (point_at s at h).view in
     by_fields _ _ (f ∙ r.words ∙ rw (le-ltb longest (length s) short, e))
+
+-- what `token_at` says, as a record
+pub token_at_lem : {u : Letters} {profile : ℕ} {s : List ℕ} {at kind suffixAt found end : ℕ} → length s ≤ longest → TokenAt u profile s at kind suffixAt found end →
+    ◌≡◌ {A = Token} (record { kind = kind; len = end - at; suffix = suffixAt - at; start = at; misplaced = found }) (record_at u profile s at)
+token_at_lem {u} {profile} {s} {at} {kind} {suffixAt} {found} {end} short a =
+    let t = token_at u profile s at in
+    let l : end - at ≡ t.len = omega (arith, a.end_is) in
+    let m : suffixAt - at ≡ t.suffix = omega (arith, a.suffix_is) in
+    rw (a.kind_is, l, m, a.found_is) (ap (record_of s at) (first_of u profile s at short))
 
 -- ---- the checks
 whole_records : (room : ℕ) → record_words * room / record_words ≡ room

@@ -110,7 +110,7 @@ pub seeking_none : (cut : List ℕ → List Token) (s : List ℕ) (from : ℕ) �
 seeking_none cut s from h = record { after = omega arith; within = h; members = refl; seen = refl }
 
 module _ {u : Letters} {profile : ℕ} {s : List ℕ} {from at kind suffixAt found end : ℕ} (w : Seeking (tokens_by u profile) s from at) (short : length s ≤ longest) (h : at < length s) (a : TokenAt u profile s at kind suffixAt found end) where
-  seeking_found : {b : Bool} → b ≡ is_counted kind → b ≡ true → Ahead (tokens_by u profile) s from kind at suffixAt end
+  pub seeking_found : {b : Bool} → b ≡ is_counted kind → b ≡ true → Ahead (tokens_by u profile) s from kind at suffixAt end
   seeking_found b e =
       let c : is_counted kind ≡ true = sym b ∙ e in
       record {
@@ -120,7 +120,7 @@ module _ {u : Letters} {profile : ℕ} {s : List ℕ} {from at kind suffixAt fou
         some = λ z. (w.members ∙ members_yes short h a c, w.seen ∙ seen_yes short h a c);
       }
 
-  seeking_on : {b : Bool} → b ≡ is_counted kind → b ≡ false → Seeking (tokens_by u profile) s from end
+  pub seeking_on : {b : Bool} → b ≡ is_counted kind → b ≡ false → Seeking (tokens_by u profile) s from end
   seeking_on b e =
       let c : is_counted kind ≡ false = sym b ∙ e in
       record {
@@ -130,7 +130,7 @@ module _ {u : Letters} {profile : ℕ} {s : List ℕ} {from at kind suffixAt fou
         seen = w.seen ∙ seen_no short h a c;
       }
 
-seeking_end : (u : Letters) (profile : ℕ) {s : List ℕ} {from at : ℕ} → Seeking (tokens_by u profile) s from at → length s ≤ at → Ahead (tokens_by u profile) s from eof at at at
+pub seeking_end : (u : Letters) (profile : ℕ) {s : List ℕ} {from at : ℕ} → Seeking (tokens_by u profile) s from at → length s ≤ at → Ahead (tokens_by u profile) s from eof at at at
 unfolding members_by counted sights
 seeking_end u profile {s} {from} {at} w h =
     let z : tokens_by u profile (drop at s) ≡ [] = rw (drop_of_length-le s {i = at} h) (none_of (keyable u profile)) in

@@ -136,7 +136,7 @@ module _ {cut : List ℕ → List Token} {s s' : List ℕ} {a b n kind start suf
       sym (parted_is same (same_none h h') (rw (same_verdict h h')))
 
   -- both are some, and what is left stands behind them
-  parting_some : {r : Bool} → r ≡ alike m m' → r ≡ true → (end - start ≡ 0 → ⊥) → (start < end) × (start' < end')
+  pub parting_some : {r : Bool} → r ≡ alike m m' → r ≡ true → (end - start ≡ 0 → ⊥) → (start < end) × (start' < end')
   parting_some {r} e t h =
       let f : alike m m' ≡ true = sym e ∙ t in
       (omega (arith, p.place.before_end), omega (arith, alike_long f, p.place.before_end))

@@ -48,7 +48,7 @@ fn is_counted(kind: u32) -> bool
 }
 
 // The first counted token at or behind a place. Where there is none, it is Eof, which counts, and the end. By runs of one, whose words have
-// the numbers of kinds: `listing::token_at` would be a second caller of the cutter.
+// the numbers of kinds: `listing::token_at` makes kinds of them.
 fn next_counted(text: &[u8], from: usize, profile: u32, letters: &Letters<'_>) -> Found
     requires { (from ≤ length text.now) × (length text.now ≤ longest) }
     ensures { Ahead (tokens_by (letters_in letters.now) profile) text.now from result.kind result.start result.suffix result.end }
