@@ -21,9 +21,9 @@ fn print_comparison(rt: &impl Print, given: ComparisonAnswer) -> io::Result<()> 
 }
 
 pub fn answer(rt: &impl Print, mut words: Words<'_>) -> Result<()> {
+    let profile = number(words.word())?;
     let mut old = [0u8; TEXT];
     let mut new = [0u8; TEXT];
-    let profile = number(words.word())?;
     let old = bytes(words.word(), &mut old)?;
     let new = bytes(words.rest(), &mut new)?;
     let given = same::compare(old, new, profile);

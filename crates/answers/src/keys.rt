@@ -1,6 +1,6 @@
 // The tasks on keys.
 use crate::output::{Fault, Hex, Result, print_answer};
-use crate::words::{TEXT, Text, Words, bytes, number};
+use crate::words::{TEXT, Words, bytes, number};
 use renewal::renewal_key;
 
 // The most bytes of a key, eleven for each byte of the longest text.
@@ -8,19 +8,19 @@ const KEY: usize = 360448;
 
 type Key = [u8; KEY];
 
-// The key of the text that a word writes.
-fn make<'a>(word: &[u8], profile: u32, room: &mut Text, key: &'a mut Key) -> Result<&'a [u8]> {
-    let text = bytes(word, room)?;
+// The key of a text.
+fn make<'a>(text: &[u8], profile: u32, key: &'a mut Key) -> Result<&'a [u8]> {
     let n = renewal_key(text, profile, key)?;
     Ok(&key[..n.min(KEY)])
 }
 
 // key PROFILE HEX: what `renewal_key` answers, and the bytes.
 pub fn key(rt: &impl Print, mut words: Words<'_>) -> Result<()> {
-    let mut room = [0u8; TEXT];
-    let mut key = [0u8; KEY];
     let profile = number(words.word())?;
-    let bytes = make(words.rest(), profile, &mut room, &mut key)?;
+    let mut room = [0u8; TEXT];
+    let text = bytes(words.rest(), &mut room)?;
+    let mut key = [0u8; KEY];
+    let bytes = make(text, profile, &mut key)?;
     let n = bytes.len();
     let hex = Hex(bytes);
     print!(rt; "0 {n} {hex}")?;
@@ -30,11 +30,11 @@ pub fn key(rt: &impl Print, mut words: Words<'_>) -> Result<()> {
 // keyroom PROFILE BYTES HEX: what it answers where it is lent so many bytes, with A5 in each, and all of them after the call, so that what it
 // doesn't write is seen.
 pub fn key_room(rt: &impl Print, mut words: Words<'_>) -> Result<()> {
-    let mut room = [0u8; TEXT];
-    let mut key = [0xA5u8; KEY];
     let profile = number(words.word())?;
     let n = number(words.word())? as usize;
+    let mut room = [0u8; TEXT];
     let text = bytes(words.rest(), &mut room)?;
+    let mut key = [0xA5u8; KEY];
     let lent = key.get_mut(..n).ok_or(Fault::Unreadable)?;
     print_answer(rt, renewal_key(text, profile, lent))?;
     let hex = Hex(lent);
@@ -44,12 +44,14 @@ pub fn key_room(rt: &impl Print, mut words: Words<'_>) -> Result<()> {
 
 // pair PROFILE HEX HEX: whether two texts share a key, or what refuses the first text that has none.
 pub fn pair(rt: &impl Print, mut words: Words<'_>) -> Result<()> {
+    let profile = number(words.word())?;
     let mut room = [0u8; TEXT];
     let mut old = [0u8; KEY];
     let mut new = [0u8; KEY];
-    let profile = number(words.word())?;
-    let old = make(words.word(), profile, &mut room, &mut old)?;
-    let new = make(words.rest(), profile, &mut room, &mut new)?;
+    let text = bytes(words.word(), &mut room)?;
+    let old = make(text, profile, &mut old)?;
+    let text = bytes(words.rest(), &mut room)?;
+    let new = make(text, profile, &mut new)?;
     let verdict = if old == new { "same" } else { "differ" };
     print!(rt; "{verdict}")?;
     Ok(())

@@ -15,7 +15,7 @@ pub const ITEM: usize = 3;
 // The most words of a list: a token's for each byte of the longest text. An item has no more words than a token.
 pub const LIST: usize = RECORD * TEXT;
 
-// What stands in a word before the call.
+// What stands in a word before the call. The large arrays of a task are made once its words are read: an unreadable line needs none.
 pub const BLANK: u32 = 0xA5A5A5A5;
 
 // tok PROFILE HEX, unescape MODE HEX: what a call answers, and the records that it lists, so many words each.
@@ -28,10 +28,10 @@ pub fn listed<F: Fn(&[u8], u32, &mut [u32]) -> Result<usize, Refusal>>(
     requires can { F.IsAlwaysCallable call }
     requires wide { 0 < width }
 {
-    let mut room = [0u8; TEXT];
-    let mut list = [BLANK; LIST];
     let selector = number(words.word())?;
+    let mut room = [0u8; TEXT];
     let text = bytes(words.rest(), &mut room)?;
+    let mut list = [BLANK; LIST];
     let n = call(text, selector, &mut list)?;
     print!(rt; "0 {n}")?;
     print_records(rt, &list, width, n, " ", ",")?;
@@ -47,11 +47,11 @@ pub fn room<F: Fn(&[u8], u32, &mut [u32]) -> Result<usize, Refusal>>(
 ) -> Result<()>
     requires { F.IsAlwaysCallable call }
 {
-    let mut room = [0u8; TEXT];
-    let mut list = [BLANK; LIST];
     let selector = number(words.word())?;
     let n = number(words.word())? as usize;
+    let mut room = [0u8; TEXT];
     let text = bytes(words.rest(), &mut room)?;
+    let mut list = [BLANK; LIST];
     let lent = list.get_mut(..n).ok_or(Fault::Unreadable)?;
     print_answer(rt, call(text, selector, lent))?;
     print_records(rt, lent, 1, n, " ", "")?;
@@ -71,12 +71,12 @@ fn body_of(record: &[u32]) -> Option<Range<usize>> {
 
 // body PROFILE INDEX MODE HEX: the items of the body of a token.
 pub fn body(rt: &impl Print, mut words: Words<'_>) -> Result<()> {
-    let mut room = [0u8; TEXT];
-    let mut list = [BLANK; LIST];
     let profile = number(words.word())?;
     let index = number(words.word())? as usize;
     let mode = number(words.word())?;
+    let mut room = [0u8; TEXT];
     let text = bytes(words.rest(), &mut room)?;
+    let mut list = [BLANK; LIST];
     let n = listing::tokenize(text, profile, &mut list)?;
     let body = list
         .chunks_exact(RECORD)

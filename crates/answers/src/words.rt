@@ -1,4 +1,6 @@
 // The words of a line, and the numbers and bytes that they write.
+ghost use Rattle.std.specs.Prelude.{◌≤◌, length, IfSome, IfOk};
+
 use crate::output::{Fault, Result};
 
 // The most bytes that a line writes, at two digits a byte.
@@ -46,7 +48,9 @@ pub fn number(word: &[u8]) -> Result<u32> {
     decimal(word).ok_or(Fault::Unreadable)
 }
 
-fn hex<'a>(word: &[u8], room: &'a mut Text) -> Option<&'a [u8]> {
+fn hex<'a>(word: &[u8], room: &'a mut Text) -> Option<&'a [u8]>
+    ensures { IfSome result (λ bytes. length bytes.now ≤ 32768) }
+{
     if word == b"-".as_slice() {
         return Some(b"");
     }
@@ -61,7 +65,9 @@ fn hex<'a>(word: &[u8], room: &'a mut Text) -> Option<&'a [u8]> {
 }
 
 // The bytes that a word writes, two digits each; a hyphen stands for none.
-pub fn bytes<'a>(word: &[u8], room: &'a mut Text) -> Result<&'a [u8]> {
+pub fn bytes<'a>(word: &[u8], room: &'a mut Text) -> Result<&'a [u8]>
+    ensures { IfOk result (λ bytes. length bytes.now ≤ 32768) }
+{
     hex(word, room).ok_or(Fault::Unreadable)
 }
 

@@ -6,6 +6,8 @@
 // error fails: the launcher gives 0 for tokens, 1 for a refusal and 2 for all else.
 #![tactic(auto)]
 
+ghost use Rattle.std.specs.Prelude.{◌≤◌, length, IfOk};
+
 use arguments::{MOST, check_asked, list_asked};
 use cutters::RECORD;
 use std::env::FillError;
@@ -62,7 +64,9 @@ fn list_tokens(rt: &impl Print, words: usize, first: &[u8], text: &[u8]) -> io::
 
 // Standard input to its end, or as much of it as there is room for: a read that went well and gave no byte has left none of it. The place moves by
 // what a read gave, so that there is no `for`.
-fn read_input<'a>(input: &mut impl Read, room: &'a mut [u8]) -> io::Result<&'a [u8]> {
+fn read_input<'a>(input: &mut impl Read, room: &'a mut [u8]) -> io::Result<&'a [u8]>
+    ensures { IfOk result (λ text. length text.now ≤ length room.old) }
+{
     let mut len = 0;
     while len < room.len() {
         let more = input.read(&mut room[len..])?;

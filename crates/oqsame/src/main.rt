@@ -16,7 +16,7 @@
 
 mod kinds;
 
-ghost use Rattle.std.specs.Prelude.{◌≤◌, length};
+ghost use Rattle.std.specs.Prelude.{◌≤◌, length, IfOk};
 
 use cutters::Kind;
 use kinds::Name;
@@ -127,7 +127,9 @@ fn read_full(file: &mut impl Read, room: &mut [u8]) -> usize
 }
 
 // Reads all of a file: where reading stopped it has to end.
-fn read_file<'a>(rt: &impl Files, name: &[u8], room: &'a mut [u8]) -> Result<&'a [u8], Fault> {
+fn read_file<'a>(rt: &impl Files, name: &[u8], room: &'a mut [u8]) -> Result<&'a [u8], Fault>
+    ensures { IfOk result (λ text. length text.now ≤ length room.old) }
+{
     let mut file = open(rt, name).map_err(Fault::System)?;
     let n = read_full(&mut file, room);
     match file.read(&mut [0u8; 1]) {
