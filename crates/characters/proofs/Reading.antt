@@ -72,4 +72,8 @@ module _ (s : List ℕ) (at : ℕ) {code wide : ℕ} where
         ∙ rw (byte_behind s at 0 (at + 1) (omega arith), byte_behind s at 1 (at + 2) (omega arith), byte_behind s at 2 (at + 3) (omega arith), ← p, ← q, ← m))
         r
 
+-- ---- the character alone, where none stands there
+pub code_past : (s : List ℕ) (at : ℕ) {code : ℕ} → length s ≤ at → code ≡ 0 → code ≡ (first (drop at s)).0
+code_past s at h p = (decoded_past s at {wide = 0} h p refl).code_is
+
 pub ruleset at_place = (decoded_past, decoded_ascii, decoded_none, decoded_over, decoded_two, decoded_three, decoded_four)

@@ -149,6 +149,7 @@ pub fn decode(text: &[u8], at: usize) -> Char
 }
 
 // The character at a place alone; at or past the end, 0.
+#[tactic(auto, using(crate::proofs::Reading::code_past))]
 pub fn code(text: &[u8], at: usize) -> u32
     ensures { result ≡ (first (drop at text.now)).0 }
 {

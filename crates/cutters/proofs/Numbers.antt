@@ -1,11 +1,13 @@
--- A number stands for one kind alone: so the promises that speak of `kind_number` leave one kind.
+-- A number stands for one kind alone: so the promises that speak of `kind_number` leave one kind, and so does that of the kind of a number.
 -- Assumes nothing.
-use Rattle.std.specs.Prelude.{◌≡◌, refl, true, false, cond, List, [], ◌∷◌, ℕ, eqb}
+use Rattle.std.specs.Prelude.{◌≡◌, refl, true, false, cond, List, [], ◌∷◌, ℕ, eqb, Result, Ok, Err}
 use mathlib.Core.Path.{sym, ap, ◌∙◌}
+use mathlib.Core.Bool.{false≢true}
 use Rattle.cutters.specs.declared.kinds.Base.TheVariants.{Binary, Octal, Decimal, Hexadecimal}
 use Rattle.cutters.specs.declared.kinds.Kind.{Kind}
 use Rattle.cutters.specs.declared.kinds.Kind.TheVariants as kind
-use Rattle.cutters.specs.Numbers.{kind_number}
+use Rattle.cutters.specs.declared.kinds.UnknownKind.{UnknownKind}
+use Rattle.cutters.specs.Numbers.{kind_number, known_kind, is_kind_of}
 
 -- the first of some kinds with this number
 abbrev kind_in : List Kind → ℕ → Kind
@@ -87,3 +89,74 @@ kind_back (kind.BitStr false false) = refl
 
 pub kind_one : (k j : Kind) → kind_number k ≡ kind_number j → k ≡ j
 kind_one k j e = sym (kind_back k) ∙ ap (kind_in all) e ∙ kind_back j
+
+kind_known : (k : Kind) → known_kind (kind_number k) ≡ true
+kind_known kind.Eof = refl
+kind_known kind.LineComment = refl
+kind_known kind.Whitespace = refl
+kind_known kind.Ident = refl
+kind_known kind.HardwareIdent = refl
+kind_known kind.InvalidIdent = refl
+kind_known kind.Pragma = refl
+kind_known kind.Annotation = refl
+kind_known kind.Semi = refl
+kind_known kind.Comma = refl
+kind_known kind.Dot = refl
+kind_known kind.OpenParen = refl
+kind_known kind.CloseParen = refl
+kind_known kind.OpenBrace = refl
+kind_known kind.CloseBrace = refl
+kind_known kind.OpenBracket = refl
+kind_known kind.CloseBracket = refl
+kind_known kind.At = refl
+kind_known kind.Tilde = refl
+kind_known kind.Question = refl
+kind_known kind.Colon = refl
+kind_known kind.Dollar = refl
+kind_known kind.Eq = refl
+kind_known kind.Bang = refl
+kind_known kind.Lt = refl
+kind_known kind.Gt = refl
+kind_known kind.Minus = refl
+kind_known kind.And = refl
+kind_known kind.Or = refl
+kind_known kind.Plus = refl
+kind_known kind.Star = refl
+kind_known kind.Slash = refl
+kind_known kind.Caret = refl
+kind_known kind.Percent = refl
+kind_known kind.Unknown = refl
+kind_known (kind.BlockComment true) = refl
+kind_known (kind.BlockComment false) = refl
+kind_known (kind.Int Binary true) = refl
+kind_known (kind.Float Binary true) = refl
+kind_known (kind.Int Binary false) = refl
+kind_known (kind.Float Binary false) = refl
+kind_known (kind.Int Octal true) = refl
+kind_known (kind.Float Octal true) = refl
+kind_known (kind.Int Octal false) = refl
+kind_known (kind.Float Octal false) = refl
+kind_known (kind.Int Decimal true) = refl
+kind_known (kind.Float Decimal true) = refl
+kind_known (kind.Int Decimal false) = refl
+kind_known (kind.Float Decimal false) = refl
+kind_known (kind.Int Hexadecimal true) = refl
+kind_known (kind.Float Hexadecimal true) = refl
+kind_known (kind.Int Hexadecimal false) = refl
+kind_known (kind.Float Hexadecimal false) = refl
+kind_known (kind.Str true) = refl
+kind_known (kind.Str false) = refl
+kind_known (kind.BitStr true true) = refl
+kind_known (kind.BitStr true false) = refl
+kind_known (kind.BitStr false true) = refl
+kind_known (kind.BitStr false false) = refl
+
+same_error : (e f : UnknownKind) → e.0 ≡ f.0 → e ≡ f
+same_error e f h = rw h refl
+
+-- one outcome of `Kind::try_from`
+pub kind_of_unique : (n : ℕ) (r q : Result Kind UnknownKind) → is_kind_of n r → is_kind_of n q → r ≡ q
+kind_of_unique n (Ok x) (Ok y) a b = ap Ok (kind_one x y (a ∙ sym b))
+kind_of_unique n (Ok x) (Err f) a b = absurd (false≢true (sym b.1 ∙ ap known_kind (sym a) ∙ kind_known x))
+kind_of_unique n (Err e) (Ok y) a b = absurd (false≢true (sym a.1 ∙ ap known_kind (sym b) ∙ kind_known y))
+kind_of_unique n (Err e) (Err f) a b = ap Err (same_error e f (a.0 ∙ sym b.0))

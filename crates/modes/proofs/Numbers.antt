@@ -1,13 +1,17 @@
--- A number stands for one mode alone, and for one error: so the promises that speak of `mode_number` and `error_number` leave one.
+-- A number stands for one mode alone, and for one error: so the promises that speak of `mode_number` and `error_number` leave one, and so do those of
+-- the modes and errors of numbers.
 -- Assumes nothing.
-use Rattle.std.specs.Prelude.{◌≡◌, refl, Result, Ok, Err, cond, List, [], ◌∷◌, ℕ, eqb}
+use Rattle.std.specs.Prelude.{◌≡◌, refl, true, Result, Ok, Err, cond, List, [], ◌∷◌, ℕ, eqb}
 use mathlib.Core.Path.{sym, ap, ◌∙◌}
+use mathlib.Core.Bool.{false≢true}
+use Rattle.text.specs.declared.Refusal.{Refusal}
 use Rattle.modes.specs.declared.Mode.{Mode}
 use Rattle.modes.specs.declared.Mode.TheVariants as mode
 use Rattle.modes.specs.declared.errors.EscapeError.{EscapeError}
 use Rattle.modes.specs.declared.errors.EscapeError.TheVariants as error
 use Rattle.modes.specs.Errors.{Outcome, char, error as error_outcome}
-use Rattle.modes.specs.Numbers.{mode_number, error_number, outcome_of}
+use Rattle.modes.specs.Modes.{known_mode}
+use Rattle.modes.specs.Numbers.{mode_number, error_number, outcome_of, known_error, is_mode_of, is_error_of}
 
 -- the first of some values with this number, or x
 abbrev found : {A : Type 0} → (A → ℕ) → A → List A → ℕ → A
@@ -30,6 +34,22 @@ mode_back mode.RawByteStr = refl
 
 pub mode_one : (x y : Mode) → mode_number x ≡ mode_number y → x ≡ y
 mode_one x y e = sym (mode_back x) ∙ ap mode_at e ∙ mode_back y
+
+mode_known : (x : Mode) → known_mode (mode_number x) ≡ true
+mode_known mode.Char = refl
+mode_known mode.Str = refl
+mode_known mode.Byte = refl
+mode_known mode.BitStr = refl
+mode_known mode.ByteStr = refl
+mode_known mode.RawStr = refl
+mode_known mode.RawByteStr = refl
+
+-- one outcome of `Mode::try_from`
+pub mode_of_unique : (n : ℕ) (r q : Result Mode Refusal) → is_mode_of n r → is_mode_of n q → r ≡ q
+mode_of_unique n (Ok x) (Ok y) a b = ap Ok (mode_one x y (a ∙ sym b))
+mode_of_unique n (Ok x) (Err f) a b = absurd (false≢true (sym b.1 ∙ ap known_mode (sym a) ∙ mode_known x))
+mode_of_unique n (Err e) (Ok y) a b = absurd (false≢true (sym a.1 ∙ ap known_mode (sym b) ∙ mode_known y))
+mode_of_unique n (Err e) (Err f) a b = ap Err (a.0 ∙ sym b.0)
 
 abbrev error_at : ℕ → EscapeError
 error_at =
@@ -66,6 +86,37 @@ error_back error.MultipleSkippedLinesWarning = refl
 
 pub error_one : (x y : EscapeError) → error_number x ≡ error_number y → x ≡ y
 error_one x y e = sym (error_back x) ∙ ap error_at e ∙ error_back y
+
+error_known : (x : EscapeError) → known_error (error_number x) ≡ true
+error_known error.ZeroChars = refl
+error_known error.MoreThanOneChar = refl
+error_known error.LoneSlash = refl
+error_known error.InvalidEscape = refl
+error_known error.BareCarriageReturn = refl
+error_known error.BareCarriageReturnInRawString = refl
+error_known error.EscapeOnlyChar = refl
+error_known error.TooShortHexEscape = refl
+error_known error.InvalidCharInHexEscape = refl
+error_known error.OutOfRangeHexEscape = refl
+error_known error.NoBraceInUnicodeEscape = refl
+error_known error.InvalidCharInUnicodeEscape = refl
+error_known error.EmptyUnicodeEscape = refl
+error_known error.UnclosedUnicodeEscape = refl
+error_known error.LeadingUnderscoreUnicodeEscape = refl
+error_known error.OverlongUnicodeEscape = refl
+error_known error.LoneSurrogateUnicodeEscape = refl
+error_known error.OutOfRangeUnicodeEscape = refl
+error_known error.UnicodeEscapeInByte = refl
+error_known error.NonAsciiCharInByte = refl
+error_known error.UnskippedWhitespaceWarning = refl
+error_known error.MultipleSkippedLinesWarning = refl
+
+-- one outcome of `EscapeError::try_from`
+pub error_of_unique : (n : ℕ) (r q : Result EscapeError Refusal) → is_error_of n r → is_error_of n q → r ≡ q
+error_of_unique n (Ok x) (Ok y) a b = ap Ok (error_one x y (a ∙ sym b))
+error_of_unique n (Ok x) (Err f) a b = absurd (false≢true (sym b.1 ∙ ap known_error (sym a) ∙ error_known x))
+error_of_unique n (Err e) (Ok y) a b = absurd (false≢true (sym a.1 ∙ ap known_error (sym b) ∙ error_known y))
+error_of_unique n (Err e) (Err f) a b = ap Err (a.0 ∙ sym b.0)
 
 -- ---- and an outcome is of one reading alone
 read_at : Outcome → Result ℕ EscapeError

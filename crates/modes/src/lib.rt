@@ -43,6 +43,13 @@ impl TryFrom<u32> for Mode {
 }
 
 impl Mode {
+    // By which the calls take it.
+    pub fn number(self) -> u32
+        ensures { result ≡ mode_number self }
+    {
+        self as u32
+    }
+
     // Whether it holds one character.
     pub fn is_single(self) -> bool
         ensures { result ≡ is_single (mode_number self) }

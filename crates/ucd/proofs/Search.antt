@@ -88,7 +88,7 @@ module _ {t : List ℕ} {c base₀ size₀ base size : ℕ} (s : Searching t c b
   pub searching_end : size ≤ 1 → base ≡ narrowed size₀ t c base₀ size₀
   searching_end h = let e : size ≡ 1 = omega (arith, s.some) in sym (one t c size base) ∙ (rw (← e)) ∙ s.same
 
-half_most : (k : ℕ) {n m : ℕ} → n ≤ 2 * k → m ≡ n - n / 2 → m ≤ k
+pub half_most : (k : ℕ) {n m : ℕ} → n ≤ 2 * k → m ≡ n - n / 2 → m ≤ k
 half_most k h e = omega arith
 
 -- five steps leave one of 32 ranges

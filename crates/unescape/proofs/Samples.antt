@@ -2,7 +2,8 @@
 -- Assumes nothing.
 use Prim.Native.Nat.{ℕ, ◌+◌, ◌<◌}
 use native.Mathlib.Omega.{arith}
-use mathlib.Core.Path.{◌≡◌, refl}
+use Rattle.std.specs.Prelude.{Ok, Err}
+use mathlib.Core.Path.{◌≡◌, refl, ap}
 use mathlib.Core.Bool.{true, false}
 use mathlib.Core.List.{List, [], ◌∷◌, flatten}
 use lib.ListN.{get_or}
@@ -19,7 +20,8 @@ use Rattle.modes.specs.Modes.{str_mode, is_single, characters_should_be_ascii, i
 use Rattle.modes.specs.Errors.{error, number, lone_surrogate_unicode_escape, unicode_escape_in_byte, unskipped_whitespace_warning}
 use Rattle.unescape.specs.Escapes.{to_digit, hex_digit, hex_escape, first_digit, more_digits, code_point, closing, braced, unicode_escape, simple, escape, ascii_check}
 use Rattle.unescape.specs.Bodies.{alone, one_char, char_or_byte, str_char, raw_char, unskipped, skipped, slashed, str_common, raw_str, turn, turns, items, items_of, flat}
-use Rattle.unescape.specs.Promises.{answer_of, listed, Unescaped, part, single}
+use Rattle.modes.specs.declared.errors.EscapeError.TheVariants.{LoneSurrogateUnicodeEscape, UnicodeEscapeInByte}
+use Rattle.unescape.specs.Promises.{answer_of, listed, Unescaped, part, single, read_one}
 use Rattle.unescape.proofs.Digits.{digit_below, digit_above}
 
 -- to unfold this is to unfold all that the examples compute with
@@ -86,6 +88,15 @@ rules_out_surrogate_first a = let z : ◌≡◌ {A = ℕ} 1114129 1114131 = a.al
 pub rules_out_overlong_late : Answered (single true (0x5C ∷ 0x75 ∷ 0x7B ∷ 0x31 ∷ 0x32 ∷ 0x33 ∷ 0x34 ∷ 0x35 ∷ 0x36 ∷ 0x37 ∷ 0x7D ∷ [])) done (number (error unicode_escape_in_byte)) → ⊥
 unfolding definitions
 rules_out_overlong_late a = let z : ◌≡◌ {A = ℕ} 1114131 1114128 = a.also_is in omega arith
+
+-- and the same two of the results of `unescape_byte`, of which `read_one` tells
+pub rules_out_surrogate_read : read_one (Ok (Err LoneSurrogateUnicodeEscape)) ≡ single true (0x5C ∷ 0x75 ∷ 0x7B ∷ 0x44 ∷ 0x38 ∷ 0x30 ∷ 0x30 ∷ 0x7D ∷ []) → ⊥
+unfolding definitions
+rules_out_surrogate_read e = let z : ◌≡◌ {A = ℕ} 1114129 1114131 = ap (λ (p : ℕ × ℕ). p.1) e in omega arith
+
+pub rules_out_overlong_read : read_one (Ok (Err UnicodeEscapeInByte)) ≡ single true (0x5C ∷ 0x75 ∷ 0x7B ∷ 0x31 ∷ 0x32 ∷ 0x33 ∷ 0x34 ∷ 0x35 ∷ 0x36 ∷ 0x37 ∷ 0x7D ∷ []) → ⊥
+unfolding definitions
+rules_out_overlong_read e = let z : ◌≡◌ {A = ℕ} 1114131 1114128 = ap (λ (p : ℕ × ℕ). p.1) e in omega arith
 
 -- warning 21 without its character
 pub rules_out_short_warning : {rest : List ℕ} → Unescaped (0x5C ∷ 0x0A ∷ 0xC2 ∷ 0xA0 ∷ []) str_mode (0 ∷ 0 ∷ 0 ∷ 0 ∷ 0 ∷ 0 ∷ []) done 2 (0 ∷ 2 ∷ number (error unskipped_whitespace_warning) ∷ rest) → ⊥

@@ -44,7 +44,7 @@ one_step {s} {start = start} {end = end} read {x} e w p l =
       inside = tt;
     }
 
-scan_step : (f : List ℕ → Outcome × List ℕ) {s s' : List ℕ} {at end : ℕ} {read : Result ℕ EscapeError} {r : Step} → Scanned f s at read s' end → r ≡ step_of read → Behind (λ from. one (length s) from (f (left s at))) s at r s' end
+pub scan_step : (f : List ℕ → Outcome × List ℕ) {s s' : List ℕ} {at end : ℕ} {read : Result ℕ EscapeError} {r : Step} → Scanned f s at read s' end → r ≡ step_of read → Behind (λ from. one (length s) from (f (left s at))) s at r s' end
 scan_step f {read = read} q e start l =
     let p = q.place in
     rw e (one_step read q.same q.what (record { after = omega (arith, p.after); within = p.within; there = p.there }) (omega (arith, p.after)))
@@ -82,7 +82,7 @@ module _ {s s₁ : List ℕ} {at at₁ : ℕ} {x : Option ℕ} (ascii_only : Boo
         let b = rw n.same at (b' start (omega (arith, n.place.after))) in
         rw (next_some n k, eq-eqb c 0x0A h) b
 
-    slash_escape : {read : Result ℕ EscapeError} → (c ≡ 0x0A → ⊥) → Scanned (escape ascii_only) s at read s₂ at₂ → r ≡ step_of read → Behind (λ from. slashed (length s) ascii_only from (left s at)) s at r s₂ at₂
+    pub slash_escape : {read : Result ℕ EscapeError} → (c ≡ 0x0A → ⊥) → Scanned (escape ascii_only) s at read s₂ at₂ → r ≡ step_of read → Behind (λ from. slashed (length s) ascii_only from (left s at)) s at r s₂ at₂
     unfolding slashed
     slash_escape h q e start l =
         let v = next_some n k in
