@@ -15,10 +15,29 @@ pub const ITEM: usize = 3;
 // The most words of a list: a token's for each byte of the longest text. An item has no more words than a token.
 pub const LIST: usize = RECORD * TEXT;
 
-// What stands in a word before the call. The large arrays of a task are made once its words are read: an unreadable line needs none.
+// What stands in a word before the call.
 pub const BLANK: u32 = 0xA5A5A5A5;
 
-// tok PROFILE HEX, unescape MODE HEX: what a call answers, and the records that it lists, so many words each.
+// What a call answers to a text, and the records that it lists, so many words each. The list is made here, and not by what reads the line: a function
+// pays for its large arrays where it begins, and an unreadable line needs none.
+fn list_text<F: Fn(&[u8], u32, &mut [u32]) -> Result<usize, Refusal>>(
+    rt: &impl Print,
+    text: &[u8],
+    selector: u32,
+    width: usize,
+    call: F,
+) -> Result<()>
+    requires can { F.IsAlwaysCallable call }
+    requires wide { 0 < width }
+{
+    let mut list = [BLANK; LIST];
+    let n = call(text, selector, &mut list)?;
+    print!(rt; "0 {n}")?;
+    print_records(rt, &list, width, n, " ", ",")?;
+    Ok(())
+}
+
+// tok PROFILE HEX, unescape MODE HEX.
 pub fn listed<F: Fn(&[u8], u32, &mut [u32]) -> Result<usize, Refusal>>(
     rt: &impl Print,
     mut words: Words<'_>,
@@ -28,18 +47,30 @@ pub fn listed<F: Fn(&[u8], u32, &mut [u32]) -> Result<usize, Refusal>>(
     requires can { F.IsAlwaysCallable call }
     requires wide { 0 < width }
 {
-    let selector = number(words.word())?;
     let mut room = [0u8; TEXT];
+    let selector = number(words.word())?;
     let text = bytes(words.rest(), &mut room)?;
+    list_text(rt, text, selector, width, call)
+}
+
+// What a call answers where it is lent so many words, with A5 in each byte, and all of them after the call, so that what it doesn't write is seen.
+fn lend_room<F: Fn(&[u8], u32, &mut [u32]) -> Result<usize, Refusal>>(
+    rt: &impl Print,
+    text: &[u8],
+    selector: u32,
+    n: usize,
+    call: F,
+) -> Result<()>
+    requires { F.IsAlwaysCallable call }
+{
     let mut list = [BLANK; LIST];
-    let n = call(text, selector, &mut list)?;
-    print!(rt; "0 {n}")?;
-    print_records(rt, &list, width, n, " ", ",")?;
+    let lent = list.get_mut(..n).ok_or(Fault::Unreadable)?;
+    print_answer(rt, call(text, selector, lent))?;
+    print_records(rt, lent, 1, n, " ", "")?;
     Ok(())
 }
 
-// tokroom PROFILE WORDS HEX, itemroom MODE WORDS HEX: what a call answers where it is lent so many words, with A5 in each byte, and all of them
-// after the call, so that what it doesn't write is seen.
+// tokroom PROFILE WORDS HEX, itemroom MODE WORDS HEX.
 pub fn room<F: Fn(&[u8], u32, &mut [u32]) -> Result<usize, Refusal>>(
     rt: &impl Print,
     mut words: Words<'_>,
@@ -47,15 +78,11 @@ pub fn room<F: Fn(&[u8], u32, &mut [u32]) -> Result<usize, Refusal>>(
 ) -> Result<()>
     requires { F.IsAlwaysCallable call }
 {
+    let mut room = [0u8; TEXT];
     let selector = number(words.word())?;
     let n = number(words.word())? as usize;
-    let mut room = [0u8; TEXT];
     let text = bytes(words.rest(), &mut room)?;
-    let mut list = [BLANK; LIST];
-    let lent = list.get_mut(..n).ok_or(Fault::Unreadable)?;
-    print_answer(rt, call(text, selector, lent))?;
-    print_records(rt, lent, 1, n, " ", "")?;
-    Ok(())
+    lend_room(rt, text, selector, n, call)
 }
 
 // The body of a string or a bit string, the kinds from 56 to 61: behind its quote, and before the one that closes it. The closed ones are odd.
@@ -69,13 +96,8 @@ fn body_of(record: &[u32]) -> Option<Range<usize>> {
     }
 }
 
-// body PROFILE INDEX MODE HEX: the items of the body of a token.
-pub fn body(rt: &impl Print, mut words: Words<'_>) -> Result<()> {
-    let profile = number(words.word())?;
-    let index = number(words.word())? as usize;
-    let mode = number(words.word())?;
-    let mut room = [0u8; TEXT];
-    let text = bytes(words.rest(), &mut room)?;
+// The items of the body of a token.
+fn list_body(rt: &impl Print, text: &[u8], profile: u32, index: usize, mode: u32) -> Result<()> {
     let mut list = [BLANK; LIST];
     let n = listing::tokenize(text, profile, &mut list)?;
     let body = list
@@ -88,6 +110,16 @@ pub fn body(rt: &impl Print, mut words: Words<'_>) -> Result<()> {
     print!(rt; "0 {n}")?;
     print_records(rt, &list, ITEM, n, " ", ",")?;
     Ok(())
+}
+
+// body PROFILE INDEX MODE HEX.
+pub fn body(rt: &impl Print, mut words: Words<'_>) -> Result<()> {
+    let mut room = [0u8; TEXT];
+    let profile = number(words.word())?;
+    let index = number(words.word())? as usize;
+    let mode = number(words.word())?;
+    let text = bytes(words.rest(), &mut room)?;
+    list_body(rt, text, profile, index, mode)
 }
 
 fn print_token(rt: &impl Print, t: Token) -> io::Result<()> {
