@@ -1,8 +1,9 @@
 -- A number stands for one kind alone: so the promises that speak of `kind_number` leave one kind, and so does that of the kind of a number.
 -- Assumes nothing.
-use Rattle.std.specs.Prelude.{◌≡◌, refl, true, false, cond, List, [], ◌∷◌, ℕ, eqb, Result, Ok, Err}
+use Rattle.std.specs.Prelude.{◌≡◌, refl, true, false, cond, List, [], ◌∷◌, ℕ, eqb, Result}
 use mathlib.Core.Path.{sym, ap, ◌∙◌}
-use mathlib.Core.Bool.{false≢true}
+use Rattle.lists.proofs.Bools.{equal_unique}
+use Rattle.lists.proofs.Numbered.{numbered_unique}
 use Rattle.cutters.specs.declared.kinds.Base.TheVariants.{Binary, Octal, Decimal, Hexadecimal}
 use Rattle.cutters.specs.declared.kinds.Kind.{Kind}
 use Rattle.cutters.specs.declared.kinds.Kind.TheVariants as kind
@@ -156,7 +157,4 @@ same_error e f h = rw h refl
 
 -- one outcome of `Kind::try_from`
 pub kind_of_unique : (n : ℕ) (r q : Result Kind UnknownKind) → is_kind_of n r → is_kind_of n q → r ≡ q
-kind_of_unique n (Ok x) (Ok y) a b = ap Ok (kind_one x y (a ∙ sym b))
-kind_of_unique n (Ok x) (Err f) a b = absurd (false≢true (sym b.1 ∙ ap known_kind (sym a) ∙ kind_known x))
-kind_of_unique n (Err e) (Ok y) a b = absurd (false≢true (sym a.1 ∙ ap known_kind (sym b) ∙ kind_known y))
-kind_of_unique n (Err e) (Err f) a b = ap Err (same_error e f (a.0 ∙ sym b.0))
+kind_of_unique n = numbered_unique kind_number known_kind (λ e. e.0 ≡ n) kind_one kind_known (λ e f a b. same_error e f (equal_unique a b)) n

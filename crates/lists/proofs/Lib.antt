@@ -3,6 +3,7 @@ pub mod Bools
 pub mod Cut
 pub mod Eat
 pub mod Ends
+pub mod Numbered
 pub mod Put
 pub mod Store
 pub mod Values

@@ -3,8 +3,10 @@
 -- Assumes nothing.
 use Rattle.std.specs.Prelude.{◌≡◌, refl, true, Result, Ok, Err, cond, List, [], ◌∷◌, ℕ, eqb}
 use mathlib.Core.Path.{sym, ap, ◌∙◌}
-use mathlib.Core.Bool.{false≢true}
+use Rattle.lists.proofs.Bools.{equal_unique}
+use Rattle.lists.proofs.Numbered.{numbered_unique}
 use Rattle.text.specs.declared.Refusal.{Refusal}
+use Rattle.text.specs.declared.Refusal.TheVariants.{UnknownSelector}
 use Rattle.modes.specs.declared.Mode.{Mode}
 use Rattle.modes.specs.declared.Mode.TheVariants as mode
 use Rattle.modes.specs.declared.errors.EscapeError.{EscapeError}
@@ -46,10 +48,7 @@ mode_known mode.RawByteStr = refl
 
 -- one outcome of `Mode::try_from`
 pub mode_of_unique : (n : ℕ) (r q : Result Mode Refusal) → is_mode_of n r → is_mode_of n q → r ≡ q
-mode_of_unique n (Ok x) (Ok y) a b = ap Ok (mode_one x y (a ∙ sym b))
-mode_of_unique n (Ok x) (Err f) a b = absurd (false≢true (sym b.1 ∙ ap known_mode (sym a) ∙ mode_known x))
-mode_of_unique n (Err e) (Ok y) a b = absurd (false≢true (sym a.1 ∙ ap known_mode (sym b) ∙ mode_known y))
-mode_of_unique n (Err e) (Err f) a b = ap Err (a.0 ∙ sym b.0)
+mode_of_unique = numbered_unique mode_number known_mode (λ e. e ≡ UnknownSelector) mode_one mode_known (λ e f. equal_unique)
 
 abbrev error_at : ℕ → EscapeError
 error_at =
@@ -113,10 +112,7 @@ error_known error.MultipleSkippedLinesWarning = refl
 
 -- one outcome of `EscapeError::try_from`
 pub error_of_unique : (n : ℕ) (r q : Result EscapeError Refusal) → is_error_of n r → is_error_of n q → r ≡ q
-error_of_unique n (Ok x) (Ok y) a b = ap Ok (error_one x y (a ∙ sym b))
-error_of_unique n (Ok x) (Err f) a b = absurd (false≢true (sym b.1 ∙ ap known_error (sym a) ∙ error_known x))
-error_of_unique n (Err e) (Ok y) a b = absurd (false≢true (sym a.1 ∙ ap known_error (sym b) ∙ error_known y))
-error_of_unique n (Err e) (Err f) a b = ap Err (a.0 ∙ sym b.0)
+error_of_unique = numbered_unique error_number known_error (λ e. e ≡ UnknownSelector) error_one error_known (λ e f. equal_unique)
 
 -- ---- and an outcome is of one reading alone
 read_at : Outcome → Result ℕ EscapeError

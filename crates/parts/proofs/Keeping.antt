@@ -92,7 +92,6 @@ module _ (place e : ℕ) (rs : List Rec) where
   pub end_in_front : (t : List ℕ) → end_in (words rs ++ t) place e 0 (length rs) ≡ end_before place e rs
   end_in_front t = end_from (words rs ++ t) t place e 0 rs refl
 
--- ---- bytes moved to the front
 -- ---- bytes copied, as many as there is room for
 pub copied_is : (carry bytes : List ℕ) (k n : ℕ) {vs : List ℕ} → k ≤ length carry → n ≡ min (length bytes) (length carry - k) → vs ≡ take n bytes → Copied carry k bytes (k + n) (put_mid k (k + n - k) carry vs)
 copied_is carry bytes k n {vs} h e f =

@@ -39,6 +39,10 @@ by_fields t t' e =
     let word : (i : ℕ) → get_or (fields t) i 0 ≡ get_or (fields t') i 0 = λ i. ap (λ (l : List ℕ). get_or l i 0) e in
     same_record t' (word 0) (word 1) (word 2) (word 3) (word 4)
 
+-- one outcome of `Token::from`
+pub from_unique : {t t' : Token} {words : List ℕ} → fields t ≡ words → fields t' ≡ words → t ≡ t'
+from_unique e f = by_fields _ _ (e ∙ sym f)
+
 -- the run of one token at a place within the text is its record, word for word
 pub record_cut : {u : Letters} {profile : ℕ} {s list' : List ℕ} {at end count : ℕ} {t : Token} → length s ≤ longest → at < length s → CutRun u profile s at (0 ∷ 0 ∷ 0 ∷ 0 ∷ 0 ∷ []) end count list' → fields t ≡ list' → t ≡ record_at u profile s at
 unfolding run flat_from front

@@ -1,4 +1,5 @@
--- What is told of a call is told of one result alone: so the promises that speak of `given`, `checked` and `told` leave one result.
+-- What is told of a call is told of one result alone: so the promises that speak of `given` and `told` leave one result, and those that speak of `checked`
+-- where a call gives no value.
 -- Assumes nothing.
 use Rattle.std.specs.Prelude.{◌≡◌, refl, Result, Ok, Err, Bool, true, false, cond, ℕ, eqb}
 use mathlib.Core.Path.{sym, ap, ◌∙◌}
